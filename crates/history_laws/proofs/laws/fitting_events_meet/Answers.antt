@@ -1,0 +1,5 @@
+use Rattle.history_laws.proofs.Plain.{sound_meets}
+use Rattle.history_laws.proofs.laws.fitting_events_meet.Goals as goal
+
+pub returns : goal.returns
+returns c = record { flat = sound_meets }
