@@ -22,7 +22,7 @@ use Rattle.pei_types.specs.Turns.{IsNextOf, PlacesByMonitor}
 use Rattle.pei_types.specs.Operation.{mode_of}
 use Rattle.pei_types.specs.Program.{Listing, Contents}
 use Rattle.pei_types.specs.Race.{racing_pei}
-use Rattle.pei_types.specs.Schedule.{Policy, LaneClaim, Held, whole_table, plain_table, scheduled_run, round_robin, serial, by_draws}
+use Rattle.pei_types.specs.Schedule.{Run, turn, Policy, LaneClaim, Held, whole_table, plain_table, scheduled_run, round_robin, serial, by_draws}
 use Rattle.pei_types.specs.Claims.{Claims}
 use Rattle.history_laws.specs.Holding.{claim_at, Holding}
 use Rattle.history_laws.specs.Members.{In}
@@ -74,6 +74,7 @@ pub record RunsGoOn : Type 0 where
 pub record PlainRunsAreLegal : Type 0 where
   pub legal : (p : Listing) (m : MachineSpec) (image : Contents) (policy : Policy) (n : ℕ) → ChoosesActors m policy → FlatLegal p m image (scheduled_run (plain_table m image) p m image policy n).journal
   pub sound : (p : Listing) (m : MachineSpec) (image : Contents) (policy : Policy) (n : ℕ) → ChoosesActors m policy → SoundRun p m image (scheduled_run (plain_table m image) p m image policy n).journal
+  pub step : (p : Listing) (m : MachineSpec) (image : Contents) (r : Run) (a : Actor) → IsTrue (is_actor_of m a) → SoundRun p m image r.journal → SoundRun p m image (turn (plain_table m image) p m image r a).journal
   pub turns : (m : MachineSpec) → ChoosesActors m (round_robin m)
   pub serial : (m : MachineSpec) → ChoosesActors m (serial m)
   pub draws : (m : MachineSpec) (f : ℕ → ℕ) → ChoosesActors m (by_draws m f)
