@@ -229,6 +229,13 @@ impl Image {
         self.blocks
     }
 
+    /// The words of memory, in the order of their addresses.
+    pub fn words(&self) -> &[u64]
+        ensures { result.now ≡ self.now.words }
+    {
+        self.words.as_slice()
+    }
+
     /// The word at an address in bytes.
     pub fn word(&self, addr: u64) -> u64
         requires aligned { addr % 8 ≡ 0 }
