@@ -2,13 +2,25 @@
 #![tactic(auto)]
 
 mod bytes;
+mod disk;
 mod files;
+mod mem_file;
+mod mem_files;
+mod mem_sink;
 mod reading;
 mod sink;
+mod standard_output;
+mod sure;
+mod tallies;
 mod text;
 
 pub use bytes::Bytes;
+pub use disk::DiskFiles;
 pub use files::{Failed, Files, Which};
+pub use mem_files::MemFiles;
+pub use mem_sink::MemSink;
 pub use reading::{ReadEnd, read_limited};
 pub use sink::{Sink, write_all};
+pub use standard_output::OutSink;
+pub use sure::{SureFiles, SureSink};
 pub use text::Text;
