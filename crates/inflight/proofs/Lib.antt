@@ -1,0 +1,5 @@
+pub mod Counts
+pub mod FreeLanes
+pub mod InPlace
+pub mod Logarithms
+pub mod OneEach

@@ -1,0 +1,43 @@
+-- What the table keeps true of itself: each PEI is in an operand buffer entry of its own, and all room is reserved.
+use Rattle.std.specs.Prelude.{◌≡◌, ℕ, ◌≤◌, List, [], replicate, map, All, nat_eq, vec_len, vec_capacity}
+use Rattle.std.specs.List.{IsDistinct}
+use Rattle.pei_types.specs.declared.inflight_looks.PeiLook.{PeiLook}
+use Rattle.pei_types.specs.declared.machines.MachineSpec.{MachineSpec}
+use Rattle.pei_types.specs.Limits.{log_two}
+use Rattle.inflight.specs.OnTheWay.{OnTheWay, IsLaneOf, buffer_place}
+use Rattle.inflight.specs.declared.Inflight.TheInside.{Inside}
+
+-- what the table is seen as: the vaults' queues are empty
+abbrev pub shown : Inside → OnTheWay
+shown i =
+    record {
+      machine = i.machine;
+      state = record {
+        l1 = [];
+        llc = [];
+        monitor = [];
+        peis = i.peis.items;
+        issues = i.issues.items;
+        queues = replicate i.machine.vaults [];
+        fences = i.fences.items;
+      };
+      buffers = i.buffers.items;
+    }
+
+-- the operand buffer entry of a PEI
+abbrev pub place_of : PeiLook → ℕ
+place_of p = buffer_place p.id.core p.lane
+
+-- each PEI has an operand buffer entry of the machine, and no two have the same
+pub record IsOneEach (m : MachineSpec) (peis : List PeiLook) : Type 0 where
+  pub lanes : All (λ p. IsLaneOf m p.id.core p.lane) peis
+  pub apart : IsDistinct nat_eq (map place_of peis)
+
+-- and there is room for a PEI in each of the 32 entries, with a number and a fence for each core
+pub record IsInOrder (i : Inside) : Type 0 where
+  pub one_each : IsOneEach i.machine i.peis.items
+  pub room : 32 ≤ vec_capacity i.peis
+  pub issues_len : vec_len i.issues ≡ i.machine.cores
+  pub fences_len : vec_len i.fences ≡ i.machine.cores
+  pub buffers_len : vec_len i.buffers ≡ 32
+  pub bits : i.directory_bits ≡ log_two i.machine.directory

@@ -1,0 +1,65 @@
+-- What the table of PEIs on their way is seen as.
+use Rattle.std.specs.Prelude.{ℕ, suc, ◌+◌, ◌-◌, ◌*◌, ◌<◌, ◌≤◌, List, [], ◌∷◌, ◌++◌, replicate, Option, option_map, slice_index}
+use Rattle.pei_types.specs.declared.identifiers.Block.{Block}
+use Rattle.pei_types.specs.declared.identifiers.BlockNo.{BlockNo}
+use Rattle.pei_types.specs.declared.identifiers.CoreId.{CoreId}
+use Rattle.pei_types.specs.declared.identifiers.Lane.{Lane}
+use Rattle.pei_types.specs.declared.operations.Op.{Op}
+use Rattle.pei_types.specs.declared.operations.Operands.{Operands}
+use Rattle.pei_types.specs.declared.operations.Place.{Place}
+use Rattle.pei_types.specs.declared.operations.Place.TheVariants as place
+use Rattle.pei_types.specs.declared.inflight_looks.Phase.{Phase}
+use Rattle.pei_types.specs.declared.inflight_looks.Phase.TheVariants as phase
+use Rattle.pei_types.specs.declared.machines.MachineSpec.{MachineSpec}
+use Rattle.pei_types.specs.Coherence.{State, start_state, pei_state, look_in}
+use Rattle.pei_types.specs.Recency.{change_at}
+
+-- The machine; its state without caches and monitor; and the block in each operand buffer entry.
+pub record OnTheWay : Type 0 where
+  pub machine : MachineSpec
+  pub state : State
+  pub buffers : List Block
+
+-- the place among the buffers of the entry of a core's lane
+abbrev pub buffer_place : CoreId → Lane → ℕ
+buffer_place c l = 4 * c.0 + l.0 - 1
+
+abbrev pub zero_block : Block
+zero_block = record { 0 = replicate 8 0 }
+
+-- where no PEI has been issued
+abbrev pub none_issued : MachineSpec → OnTheWay
+none_issued m = record { machine = m; state = pei_state (start_state m); buffers = replicate 32 zero_block }
+
+-- a core of the machine, and the lane of one of its operand buffer entries
+pub record IsLaneOf (m : MachineSpec) (c : CoreId) (l : Lane) : Type 0 where
+  pub core : c.0 < m.cores
+  pub first : 1 ≤ l.0
+  pub last : l.0 ≤ m.buffer
+
+-- the phase of the PEI in a lane, if it holds one
+abbrev pub phase_in : State → CoreId → Lane → Option Phase
+phase_in s c l = option_map (λ p. p.phase) (look_in s c l)
+
+-- the phase of a PEI that is placed
+abbrev pub phase_at : Place → Phase
+phase_at place.Host = phase.HostPlaced
+phase_at place.Memory = phase.MemoryPlaced
+
+-- the state after the issue of a PEI, which is the core's next
+abbrev pub after_issuing : State → CoreId → Lane → Op → BlockNo → Operands → State
+after_issuing s c l o b operands =
+    record s {
+      peis =
+          s.peis
+          ++ record {
+            id = record { core = c; seq = slice_index s.issues c.0 };
+            lane = l;
+            op = o;
+            block = b;
+            operands = operands;
+            phase = phase.Issued;
+          }
+          ∷ [];
+      issues = change_at s.issues c.0 suc;
+    }

@@ -1,0 +1,305 @@
+//! The PEIs that were issued and have not left: the lane and the phase of each, the operand buffers, how many each
+//! core has issued, and the memory fences.
+#![tactic(auto)]
+
+mod fences;
+mod looks;
+
+ghost use Rattle.std.specs.Prelude.{◌≡◌, ℕ, ◌-◌, ◌^◌, ◌<◌, ◌≤◌, [], List, None, Some, IfOk, IfSome, IsSome, is_some, slice_get, slice_index, slice_set, replicate, vec_capacity};
+ghost use Rattle.pei_types.specs.declared.identifiers.PeiId.{PeiId};
+ghost use Rattle.pei_types.specs.declared.inflight_looks.PeiLook.{PeiLook};
+ghost use Rattle.pei_types.specs.Limits.{log_two};
+ghost use Rattle.pei_types.specs.Coherence.{look_in, free_lane, first_unfinished, first_unentered, conflict, entry_is_taken, in_phase, after_leaving, fence_of, unfinished_writers};
+ghost use Rattle.inflight.specs.OnTheWay.{OnTheWay, IsLaneOf, none_issued, zero_block, buffer_place, phase_in, phase_at, after_issuing};
+
+use crate::fences::{Fence, forget_in_all, make_fences};
+use crate::looks::{PLACES, change_phase, drop_pei, has_conflict, is_in, place_in_buffers, writes};
+use pei_types::{
+    Block, BlockNo, CoreId, Lane, MachineSpec, Op, Operands, OutOfMemory, PeiId, PeiLook, Phase,
+    Place,
+};
+use std::alloc::Global;
+use std::marker::Model;
+
+/// The PEIs on their way, those that were issued and have not left, in the order of their issue.
+///
+/// Each is in a lane of its core, 1 to the machine's `buffer`, which has an operand buffer entry. All memory is taken
+/// when the table is made: only `make` can want memory. A core that is handed to a call is one of the machine's, and a
+/// lane is from 1 to `buffer`.
+#[derive(Drop)]
+pub struct Inflight {
+    machine: MachineSpec,
+    directory_bits: u32,
+    peis: Vec<PeiLook>,
+    issues: Vec<u32>,
+    fences: Vec<Fence>,
+    buffers: Vec<Block>,
+}
+
+impl Model for Inflight {
+    ghost use Rattle.std.specs.Prelude.{[], replicate};
+    ghost use Rattle.inflight.specs.OnTheWay.{OnTheWay};
+
+    ghost Value = { OnTheWay };
+
+    ghost use Rattle.inflight.specs.Occupied.{IsInOrder, shown};
+
+    ghost view = { shown };
+
+    ghost invariant = { IsInOrder };
+}
+
+/// The number of bits of a directory entry.
+fn directory_bits(spec: &MachineSpec) -> u32
+    ensures { result ≡ log_two spec.now.directory }
+{
+    spec.directory.ilog2()
+}
+
+/// No PEI, with room for one in each operand buffer entry.
+fn reserve_peis(alloc: Global) -> Result<Vec<PeiLook>, OutOfMemory>
+    ensures items { IfOk result (λ v. v.items ≡ []) }
+    ensures room { IfOk result (λ v. 32 ≤ vec_capacity v) }
+{
+    Vec::with_capacity(alloc, PLACES).map_err(|_| OutOfMemory)
+}
+
+/// A count of 0 for each core.
+fn make_counts(alloc: Global, cores: u8) -> Result<Vec<u32>, OutOfMemory>
+    ensures { IfOk result (λ v. v.items ≡ replicate cores 0) }
+{
+    vec![in alloc; 0; cores as usize].map_err(|_| OutOfMemory)
+}
+
+/// The operand buffer entries, each with a block of zeros.
+fn make_buffers(alloc: Global) -> Result<Vec<Block>, OutOfMemory>
+    ensures { IfOk result (λ v. v.items ≡ replicate 32 zero_block) }
+{
+    vec![in alloc; Block([0; 8]); PLACES].map_err(|_| OutOfMemory)
+}
+
+impl Inflight {
+    /// A table of the machine `spec` on which nothing was issued.
+    ///
+    /// `OutOfMemory` comes only where the memory for it could not be had.
+    pub fn make(alloc: Global, spec: &MachineSpec) -> Result<Inflight, OutOfMemory>
+        ensures { IfOk result (λ i. i ≡ none_issued spec.now) }
+    {
+        let peis = reserve_peis(alloc)?;
+        let issues = make_counts(alloc, spec.cores)?;
+        let fences = make_fences(alloc, spec.cores)?;
+        let buffers = make_buffers(alloc)?;
+        Ok(Inflight {
+            machine: *spec,
+            directory_bits: directory_bits(spec),
+            peis,
+            issues,
+            fences,
+            buffers,
+        })
+    }
+
+    /// The lowest lane of a core that holds no PEI, or `None` where each of its `buffer` lanes holds one.
+    pub fn free_lane(&self, core: CoreId) -> Option<Lane>
+        requires { core.0 < self.now.machine.cores }
+        ensures lowest { result ≡ free_lane self.now.machine self.now.state core }
+        ensures lane { IfSome result (λ lane. IsLaneOf self.now.machine core lane) }
+        ensures free { IfSome result (λ lane. look_in self.now.state core lane ≡ None) }
+    {
+        for number in 1..=self.machine.buffer {
+            let lane = Lane(number);
+            if self.look(core, lane).is_none() {
+                return Some(lane);
+            }
+        }
+        None
+    }
+
+    /// Issues a PEI on `block` in a free lane of a core, and tells its name. `block` is any block number.
+    pub fn issue(
+        &mut self,
+        core: CoreId,
+        lane: Lane,
+        op: Op,
+        block: BlockNo,
+        operands: &Operands,
+    ) -> PeiId
+        requires lane { IsLaneOf self.old.machine core lane }
+        requires free { look_in self.old.state core lane ≡ None }
+        requires numbered { slice_index self.old.state.issues core.0 < 2 ^ 32 - 1 }
+        ensures id { result ≡ record { core = core; seq = slice_index self.old.state.issues core.0 } }
+        ensures issued { self.new ≡ record self.old { state = after_issuing self.old.state core lane op block operands.now } }
+    {
+        let issued = self.issues[core.0 as usize];
+        self.issues[core.0 as usize] = issued + 1;
+        let id = PeiId { core, seq: issued };
+        self.peis.push_reserved(PeiLook {
+            id,
+            lane,
+            op,
+            block,
+            operands: *operands,
+            phase: Phase::Issued,
+        });
+        id
+    }
+
+    /// The PEI in a lane of a core.
+    pub fn look(&self, core: CoreId, lane: Lane) -> Option<PeiLook>
+        requires { IsLaneOf self.now.machine core lane }
+        ensures { result ≡ look_in self.now.state core lane }
+    {
+        self.peis.iter().find(|pei| is_in(pei, core, lane)).copied()
+    }
+
+    /// The first PEI of a core, in the order of issue, that has not entered.
+    pub fn first_unentered(&self, core: CoreId) -> Option<PeiId>
+        requires { core.0 < self.now.machine.cores }
+        ensures { result ≡ first_unentered self.now.state core }
+    {
+        self.peis
+            .iter()
+            .find(|pei| pei.id.core == core && pei.phase == Phase::Issued)
+            .map(|pei| pei.id)
+    }
+
+    /// The first PEI of a core, in the order of issue, that has not left.
+    pub fn first_unfinished(&self, core: CoreId) -> Option<PeiId>
+        requires { core.0 < self.now.machine.cores }
+        ensures { result ≡ first_unfinished self.now.state core }
+    {
+        self.peis
+            .iter()
+            .find(|pei| pei.id.core == core)
+            .map(|pei| pei.id)
+    }
+
+    /// Whether an active PEI conflicts with `pei`: their blocks have the same directory entry, and one of them writes.
+    pub fn entry_is_taken(&self, pei: &PeiLook) -> bool
+        ensures { result ≡ entry_is_taken self.now.machine self.now.state pei.now }
+    {
+        has_conflict(&self.peis, pei, self.directory_bits)
+    }
+
+    /// Enters the PEI in a lane into the directory. The condition is that it was issued and has not entered.
+    pub fn enter(&mut self, core: CoreId, lane: Lane)
+        requires lane { IsLaneOf self.old.machine core lane }
+        requires phase { phase_in self.old.state core lane ≡ Some Phase.Issued }
+        ensures { (p : PeiLook) → look_in self.old.state core lane ≡ Some p → self.new ≡ record self.old { state = in_phase self.old.state p.id Phase.Entered } }
+    {
+        self.advance(core, lane, Phase::Entered);
+    }
+
+    /// Places the PEI in a lane at the host or in memory. The condition is that it has entered and is not placed.
+    pub fn place(&mut self, core: CoreId, lane: Lane, place: Place)
+        requires lane { IsLaneOf self.old.machine core lane }
+        requires phase { phase_in self.old.state core lane ≡ Some Phase.Entered }
+        ensures { (p : PeiLook) → look_in self.old.state core lane ≡ Some p → self.new ≡ record self.old { state = in_phase self.old.state p.id (phase_at place) } }
+    {
+        let phase = match place {
+            Place::Host => Phase::HostPlaced,
+            Place::Memory => Phase::MemoryPlaced,
+        };
+        self.advance(core, lane, phase);
+    }
+
+    /// Puts the block of the PEI in a lane into its operand buffer entry. The condition is that it is placed at the
+    /// host and has not read its block.
+    pub fn host_read(&mut self, core: CoreId, lane: Lane, block: &Block)
+        requires lane { IsLaneOf self.old.machine core lane }
+        requires phase { phase_in self.old.state core lane ≡ Some Phase.HostPlaced }
+        ensures { (p : PeiLook) → look_in self.old.state core lane ≡ Some p → self.new ≡ record self.old { state = in_phase self.old.state p.id Phase.Read; buffers = slice_set self.old.buffers (buffer_place core lane) block.now } }
+    {
+        self.advance(core, lane, Phase::Read);
+        self.buffers[place_in_buffers(core, lane)] = *block;
+    }
+
+    /// The block in the operand buffer entry of a lane. The condition is that the PEI there has read it and has not
+    /// acted.
+    pub fn held_block(&self, core: CoreId, lane: Lane) -> Block
+        requires lane { IsLaneOf self.now.machine core lane }
+        requires phase { phase_in self.now.state core lane ≡ Some Phase.Read }
+        ensures { slice_get self.now.buffers (buffer_place core lane) ≡ Some result }
+    {
+        self.buffers[place_in_buffers(core, lane)]
+    }
+
+    /// The PEI in a lane has acted. The condition is that it has read its block at the host.
+    pub fn acted(&mut self, core: CoreId, lane: Lane)
+        requires lane { IsLaneOf self.old.machine core lane }
+        requires phase { phase_in self.old.state core lane ≡ Some Phase.Read }
+        ensures { (p : PeiLook) → look_in self.old.state core lane ≡ Some p → self.new ≡ record self.old { state = in_phase self.old.state p.id Phase.Acted } }
+    {
+        self.advance(core, lane, Phase::Acted);
+    }
+
+    /// The PEI in a lane leaves: the lane is free, and no fence waits for the PEI. The condition is that it has acted.
+    pub fn leave(&mut self, core: CoreId, lane: Lane)
+        requires lane { IsLaneOf self.old.machine core lane }
+        requires phase { phase_in self.old.state core lane ≡ Some Phase.Acted }
+        ensures { (p : PeiLook) → look_in self.old.state core lane ≡ Some p → self.new ≡ record self.old { state = after_leaving self.old.state p.id } }
+    {
+        if let Some(pei) = self.look(core, lane) {
+            drop_pei(&mut self.peis, pei.id);
+            forget_in_all(&mut self.fences, pei.id);
+        }
+    }
+
+    /// The first PEI, in the order of issue over all cores, with which an ordinary access of a block races: a store
+    /// with each PEI on the block, a load with a writer.
+    pub fn conflict(&self, b: BlockNo, store: bool) -> Option<PeiId>
+        ensures { result ≡ conflict self.now.state b store }
+    {
+        self.peis
+            .iter()
+            .find(|pei| pei.block == b && (store || writes(pei.op)))
+            .map(|pei| pei.id)
+    }
+
+    /// Begins the fence of a core, which waits for each writer of any core that is on its way now. The condition is
+    /// that no fence of the core is on.
+    pub fn fence_begin(&mut self, core: CoreId)
+        requires core { core.0 < self.old.machine.cores }
+        requires off { fence_of self.old.state core ≡ None }
+        ensures { self.new ≡ record self.old { state = record self.old.state { fences = slice_set self.old.state.fences core.0 (Some (unfinished_writers self.old.state)) } } }
+    {
+        self.fences[core.0 as usize].begin(&self.peis);
+    }
+
+    /// Whether a fence of a core is on.
+    pub fn fence_on(&self, core: CoreId) -> bool
+        requires { core.0 < self.now.machine.cores }
+        ensures { result ≡ is_some (fence_of self.now.state core) }
+    {
+        self.fences[core.0 as usize].is_on()
+    }
+
+    /// The first PEI, in the order of issue, that the fence of a core waits for. The condition is that a fence of the
+    /// core is on.
+    pub fn fence_waits(&self, core: CoreId) -> Option<PeiId>
+        requires core { core.0 < self.now.machine.cores }
+        requires on { IsSome (fence_of self.now.state core) }
+        ensures { (waits : List PeiId) → fence_of self.now.state core ≡ Some waits → result ≡ slice_get waits 0 }
+    {
+        self.fences[core.0 as usize].first()
+    }
+
+    /// Ends the fence of a core. The condition is that it is on and waits for no PEI.
+    pub fn fence_end(&mut self, core: CoreId)
+        requires core { core.0 < self.old.machine.cores }
+        requires done { fence_of self.old.state core ≡ Some [] }
+        ensures { self.new ≡ record self.old { state = record self.old.state { fences = slice_set self.old.state.fences core.0 None } } }
+    {
+        self.fences[core.0 as usize].end();
+    }
+
+    /// Brings the PEI in a lane to a phase.
+    fn advance(&mut self, core: CoreId, lane: Lane, phase: Phase)
+        requires { IsLaneOf self.old.machine core lane }
+        ensures { (p : PeiLook) → look_in self.old.state core lane ≡ Some p → self.new ≡ record self.old { state = in_phase self.old.state p.id phase } }
+    {
+        if let Some(pei) = self.look(core, lane) {
+            change_phase(&mut self.peis, pei.id, phase);
+        }
+    }
+}
