@@ -1,4 +1,5 @@
 pub mod Counts
+pub mod Found
 pub mod FreeLanes
 pub mod InPlace
 pub mod Logarithms

@@ -1,5 +1,6 @@
--- What the table keeps true of itself: each PEI is in an operand buffer entry of its own, and all room is reserved.
-use Rattle.std.specs.Prelude.{◌≡◌, ℕ, ◌≤◌, List, [], replicate, map, All, nat_eq, vec_len, vec_capacity}
+-- What the table is seen as, and what it keeps true of itself: each PEI has an operand buffer entry and a name of its
+-- own, and all room is reserved.
+use Rattle.std.specs.Prelude.{◌≡◌, ℕ, ◌+◌, ◌*◌, ◌<◌, ◌≤◌, List, [], replicate, map, All, nat_eq, slice_index, vec_len, vec_capacity}
 use Rattle.std.specs.List.{IsDistinct}
 use Rattle.pei_types.specs.declared.inflight_looks.PeiLook.{PeiLook}
 use Rattle.pei_types.specs.declared.machines.MachineSpec.{MachineSpec}
@@ -24,18 +25,27 @@ shown i =
       buffers = i.buffers.items;
     }
 
--- the operand buffer entry of a PEI
+-- the operand buffer entry of a PEI, and a number that tells its name
 abbrev pub place_of : PeiLook → ℕ
 place_of p = buffer_place p.id.core p.lane
 
--- each PEI has an operand buffer entry of the machine, and no two have the same
-pub record IsOneEach (m : MachineSpec) (peis : List PeiLook) : Type 0 where
-  pub lanes : All (λ p. IsLaneOf m p.id.core p.lane) peis
-  pub apart : IsDistinct nat_eq (map place_of peis)
+abbrev pub name_of : PeiLook → ℕ
+name_of p = 8 * p.id.seq + p.id.core.0
+
+-- a PEI in a lane of the machine, of those that its core has issued
+pub record IsOf (m : MachineSpec) (issues : List ℕ) (p : PeiLook) : Type 0 where
+  pub lane : IsLaneOf m p.id.core p.lane
+  pub issued : p.id.seq < slice_index issues p.id.core.0
+
+-- PEIs of the machine, of which no two share an operand buffer entry or a name
+pub record IsOneEach (m : MachineSpec) (issues : List ℕ) (peis : List PeiLook) : Type 0 where
+  pub each : All (IsOf m issues) peis
+  pub entries : IsDistinct nat_eq (map place_of peis)
+  pub names : IsDistinct nat_eq (map name_of peis)
 
 -- and there is room for a PEI in each of the 32 entries, with a number and a fence for each core
 pub record IsInOrder (i : Inside) : Type 0 where
-  pub one_each : IsOneEach i.machine i.peis.items
+  pub one_each : IsOneEach i.machine i.issues.items i.peis.items
   pub room : 32 ≤ vec_capacity i.peis
   pub issues_len : vec_len i.issues ≡ i.machine.cores
   pub fences_len : vec_len i.fences ≡ i.machine.cores

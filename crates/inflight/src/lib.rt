@@ -9,7 +9,7 @@ ghost use Rattle.std.specs.Prelude.{◌≡◌, ℕ, ◌-◌, ◌^◌, ◌<◌, �
 ghost use Rattle.pei_types.specs.declared.identifiers.PeiId.{PeiId};
 ghost use Rattle.pei_types.specs.declared.inflight_looks.PeiLook.{PeiLook};
 ghost use Rattle.pei_types.specs.Limits.{log_two};
-ghost use Rattle.pei_types.specs.Coherence.{look_in, free_lane, first_unfinished, first_unentered, conflict, entry_is_taken, in_phase, after_leaving, fence_of, unfinished_writers};
+ghost use Rattle.pei_types.specs.Coherence.{look_in, look_of, free_lane, first_unfinished, first_unentered, conflict, entry_is_taken, in_phase, after_leaving, fence_of, unfinished_writers};
 ghost use Rattle.inflight.specs.OnTheWay.{OnTheWay, IsLaneOf, none_issued, zero_block, buffer_place, phase_in, phase_at, after_issuing};
 
 use crate::fences::{Fence, forget_in_all, make_fences};
@@ -147,7 +147,9 @@ impl Inflight {
     /// The PEI in a lane of a core.
     pub fn look(&self, core: CoreId, lane: Lane) -> Option<PeiLook>
         requires { IsLaneOf self.now.machine core lane }
-        ensures { result ≡ look_in self.now.state core lane }
+        ensures look { result ≡ look_in self.now.state core lane }
+        ensures here { IfSome result (λ p. (p.id.core ≡ core) × (p.lane ≡ lane)) }
+        ensures named { IfSome result (λ p. look_of self.now.state p.id ≡ Some p) }
     {
         self.peis.iter().find(|pei| is_in(pei, core, lane)).copied()
     }

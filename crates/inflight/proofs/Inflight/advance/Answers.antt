@@ -11,7 +11,7 @@ invariant_of-self c =
     in let new : c.change_phase.new.peis ≡ map change peis.items = c.change_phase.ensures ∙ ap (map change) c.deref_mut.ensures.value
     in let long : length c.change_phase.new.peis ≡ peis.len = omega (arith, ap length new, length-map peis.items change, peis.ok.0)
     in record {
-      one_each = rw (with_items_is peis c.change_phase.new.peis long, new) (one_each-in_phase c.self.inside.machine c.in-Some.pei.id c.args.phase peis.items c.self.invariant.one_each);
+      one_each = rw (with_items_is peis c.change_phase.new.peis long, new) (one_each-in_phase c.self.inside.machine c.self.inside.issues.items c.in-Some.pei.id c.args.phase peis.items c.self.invariant.one_each);
       room = c.self.invariant.room;
       issues_len = c.self.invariant.issues_len;
       fences_len = c.self.invariant.fences_len;

@@ -11,19 +11,27 @@ use Rattle.inflight.proofs.Inflight.issue.Goals as goal
 pub push_reserved-requires : goal.push_reserved-requires
 push_reserved-requires c =
     let s = c.self.inside
-    in let p : PeiLook = record { id = record { core = c.args.core; seq = c.index-issued.result.now }; lane = c.args.lane; op = c.args.op; block = c.args.block; operands = c.args.operands.now; phase = phase.Issued }
+    in let p : PeiLook
+    = record { id = record { core = c.args.core; seq = c.index-issued.result.now }; lane = c.args.lane; op = c.args.op; block = c.args.block; operands = c.args.operands.now; phase = phase.Issued }
     in let lane : IsLaneOf s.machine c.args.core c.args.lane = rw (← c.self.view_is) at c.requires.lane
-    in let free : find (λ (q : PeiLook). same_core q.id.core c.args.core && same_lane q.lane c.args.lane) s.peis.items ≡ None = rw (← c.self.view_is) at c.requires.free
-    in omega (arith, length-one_each_free s.machine s.peis.items p c.self.invariant.one_each lane free, s.peis.ok.0, c.self.invariant.room)
+    in let free : find (λ (q : PeiLook). same_core q.id.core c.args.core && same_lane q.lane c.args.lane) s.peis.items ≡ None
+    = rw (← c.self.view_is) at c.requires.free
+    in let counted : c.args.core.0 < length s.issues.items = omega (arith, lane.core, s.issues.ok.0, c.self.invariant.issues_len)
+    in let next = get_or_read s.issues.items c.args.core.0 c.index-issued.result.now counted c.index-issued.ensures 0
+    in omega (arith, length-one_each_free s.machine s.issues.items s.peis.items p c.self.invariant.one_each lane counted next free, s.peis.ok.0, c.self.invariant.room)
 
 pub invariant_of-self : goal.invariant_of-self
 invariant_of-self c =
     let s = c.self.inside
-    in let p : PeiLook = record { id = record { core = c.args.core; seq = c.index-issued.result.now }; lane = c.args.lane; op = c.args.op; block = c.args.block; operands = c.args.operands.now; phase = phase.Issued }
+    in let p : PeiLook
+    = record { id = record { core = c.args.core; seq = c.index-issued.result.now }; lane = c.args.lane; op = c.args.op; block = c.args.block; operands = c.args.operands.now; phase = phase.Issued }
     in let lane : IsLaneOf s.machine c.args.core c.args.lane = rw (← c.self.view_is) at c.requires.lane
-    in let free : find (λ (q : PeiLook). same_core q.id.core c.args.core && same_lane q.lane c.args.lane) s.peis.items ≡ None = rw (← c.self.view_is) at c.requires.free
+    in let free : find (λ (q : PeiLook). same_core q.id.core c.args.core && same_lane q.lane c.args.lane) s.peis.items ≡ None
+    = rw (← c.self.view_is) at c.requires.free
+    in let counted : c.args.core.0 < length s.issues.items = omega (arith, lane.core, s.issues.ok.0, c.self.invariant.issues_len)
+    in let next = get_or_read s.issues.items c.args.core.0 c.index-issued.result.now counted c.index-issued.ensures 0
     in record {
-      one_each = rw c.push_reserved.ensures.items (one_each-push s.machine s.peis.items p c.self.invariant.one_each lane free);
+      one_each = rw c.push_reserved.ensures.items (one_each-push s.machine s.issues.items s.peis.items p c.self.invariant.one_each lane counted next free);
       room = rw c.push_reserved.ensures.capacity c.self.invariant.room;
       issues_len = c.self.invariant.issues_len;
       fences_len = c.self.invariant.fences_len;
@@ -36,5 +44,5 @@ returns-clause-issued c =
     let s = c.self.inside
     in let lane : IsLaneOf s.machine c.args.core c.args.lane = rw (← c.self.view_is) at c.requires.lane
     in let counted : c.args.core.0 < length s.issues.items = omega (arith, lane.core, s.issues.ok.0, c.self.invariant.issues_len)
-    in let seq = get_or_read s.issues.items c.args.core.0 c.index-issued.result.now counted c.index-issued.ensures 0
-    in rw (← c.self.view_is, c.push_reserved.ensures.items, change_at-suc, ← seq) refl
+    in let next = get_or_read s.issues.items c.args.core.0 c.index-issued.result.now counted c.index-issued.ensures 0
+    in rw (← c.self.view_is, c.push_reserved.ensures.items, change_at-suc, ← next) refl

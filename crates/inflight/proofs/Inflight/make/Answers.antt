@@ -8,7 +8,7 @@ use Rattle.inflight.proofs.Inflight.make.Goals as goal
 pub invariant_of-result : goal.invariant_of-result
 invariant_of-result c =
     record {
-      one_each = rw c.in_ok-peis.ensures.items (one_each-none c.args.spec.now);
+      one_each = rw c.in_ok-peis.ensures.items (one_each-none c.args.spec.now c.in_ok-issues.issues.items);
       room = c.in_ok-peis.ensures.room;
       issues_len = omega (arith, ap length c.in_ok-issues.ensures, length-replicate {A = ℕ} c.args.spec.now.cores 0, c.in_ok-issues.issues.ok.0);
       fences_len = omega (arith, ap length c.in_ok-fences.ensures, length-replicate {A = Option (List PeiId)} c.args.spec.now.cores None, c.in_ok-fences.fences.ok.0);
