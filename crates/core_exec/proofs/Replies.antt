@@ -25,19 +25,21 @@ neither false false h = (refl, refl)
 neither false true h = absurd (cc h)
 neither true b h = absurd (cc h)
 
-pub none_of_is_some : (w : Option Wait) → is_some w ≡ false → seen_wait w ≡ None
-none_of_is_some None h = refl
-none_of_is_some (Some w) h = absurd (cc h)
+-- a register that does not wait is seen as such
+pub seen_wait-from_is_some : (w : Option Wait) → is_some w ≡ false → seen_wait w ≡ None
+seen_wait-from_is_some None h = refl
+seen_wait-from_is_some (Some w) h = absurd (cc h)
 
--- the element at a place of the pairs, of two lists that are long enough
-filled-zip : (seq : ℕ) (reply : Reply) (before : List ℕ) (waits : List (Option core.Wait)) (k : ℕ) → k < length before → k < length waits → slice_index (with_reply seq reply before waits) k ≡ filled seq reply (slice_index before k) (slice_index_or waits k None)
-filled-zip seq reply before waits k b w =
+-- a register after a reply
+slice_index-with_reply : (seq : ℕ) (reply : Reply) (before : List ℕ) (waits : List (Option core.Wait)) (k : ℕ) → k < length before → k < length waits → slice_index (with_reply seq reply before waits) k ≡ filled seq reply (slice_index before k) (slice_index_or waits k None)
+slice_index-with_reply seq reply before waits k b w =
     let d : ℕ × Option core.Wait = (0, None)
     in let f : ℕ × Option core.Wait → ℕ = λ v. filled seq reply v.0 v.1
     in get_or-map f (zip before waits) k d 0 (omega (arith, length-zip before waits)) ∙ ap f (get_or-zip before waits k d b w)
 
-seen_wait-map : (waits : List (Option Wait)) (k : ℕ) → k < length waits → slice_index_or (map seen_wait waits) k None ≡ seen_wait (slice_index_or waits k None)
-seen_wait-map waits k h = get_or-map seen_wait waits k None None h
+-- what one register waits for
+slice_index_or-map-seen_wait : (waits : List (Option Wait)) (k : ℕ) → k < length waits → slice_index_or (map seen_wait waits) k None ≡ seen_wait (slice_index_or waits k None)
+slice_index_or-map-seen_wait waits k h = get_or-map seen_wait waits k None None h
 
 -- each register was filled, so all were
 pub with_reply_all : (n seq : ℕ) (reply : Reply) (before after : List ℕ) (waits : List (Option Wait)) → length before ≡ n → length after ≡ n → length waits ≡ n → ((k : ℕ) → k < n → slice_index after k ≡ filled seq reply (slice_index before k) (seen_wait (slice_index_or waits k None))) → after ≡ with_reply seq reply before (map seen_wait waits)
@@ -48,8 +50,8 @@ with_reply_all n seq reply before after waits b a w each =
     (a ∙ sym (length-map (zip before seen) (λ (v : ℕ × Option core.Wait). filled seq reply v.0 v.1) ∙ length-zip before seen ∙ omega (arith, b, many)))
     (λ k h.
     each k (omega (arith, a, h))
-    ∙ ap (filled seq reply (slice_index before k)) (sym (seen_wait-map waits k (omega (arith, a, h, w))))
-    ∙ sym (filled-zip seq reply before seen k (omega (arith, a, h, b)) (omega (arith, a, h, many))))
+    ∙ ap (filled seq reply (slice_index before k)) (sym (slice_index_or-map-seen_wait waits k (omega (arith, a, h, w))))
+    ∙ sym (slice_index-with_reply seq reply before seen k (omega (arith, a, h, b)) (omega (arith, a, h, many))))
 
 -- each wait was taken on, so all were
 pub waits_after_all : (n seq : ℕ) (before after : List (Option Wait)) → length before ≡ n → length after ≡ n → ((k : ℕ) → k < n → seen_wait (slice_index_or after k None) ≡ wait_after seq (seen_wait (slice_index_or before k None))) → map seen_wait after ≡ map (wait_after seq) (map seen_wait before)
@@ -60,9 +62,9 @@ waits_after_all n seq before after b a each =
     in ext_get_or None (map seen_wait after) (map (wait_after seq) seen)
     (new ∙ sym (length-map seen (wait_after seq) ∙ old))
     (λ k h.
-    seen_wait-map after k (omega (arith, h, new, a))
+    slice_index_or-map-seen_wait after k (omega (arith, h, new, a))
     ∙ each k (omega (arith, h, new))
-    ∙ ap (wait_after seq) (sym (seen_wait-map before k (omega (arith, h, new, b))))
+    ∙ ap (wait_after seq) (sym (slice_index_or-map-seen_wait before k (omega (arith, h, new, b))))
     ∙ sym (get_or-map (wait_after seq) seen k None None (omega (arith, h, new, old))))
 
 -- no register waits, one by one and in all
@@ -72,6 +74,6 @@ no_wait_all n waits w each =
     in ext_get_or None (map seen_wait waits) (replicate n None)
     (many ∙ sym (length-replicate n None))
     (λ k h.
-    seen_wait-map waits k (omega (arith, h, many, w))
+    slice_index_or-map-seen_wait waits k (omega (arith, h, many, w))
     ∙ each k (omega (arith, h, many))
     ∙ sym (get_or-replicate n k None None (omega (arith, h, many))))

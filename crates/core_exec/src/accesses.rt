@@ -8,14 +8,21 @@ ghost use Rattle.core_exec.specs.Effect.{is_on_whole_block, shift_of};
 use crate::traps::operand_fits;
 use pei_types::{Call, EndKind, Op, Operands, TrapCause, block_of};
 
+/// The end of the core by a trap of the instruction at `pc`.
+pub(crate) fn trapped(pc: u32, cause: TrapCause) -> Call
+    ensures { result ≡ Call.End (EndKind.Trap pc cause) }
+{
+    Call::End {
+        kind: EndKind::Trap { pc, cause },
+    }
+}
+
 /// The end by a trap, if there is one, else this call.
 fn call_unless(trap: Option<TrapCause>, pc: u32, call: Call) -> Call
     ensures { Asks result ≡ asks_unless trap pc call }
 {
     match trap {
-        Some(cause) => Call::End {
-            kind: EndKind::Trap { pc, cause },
-        },
+        Some(cause) => trapped(pc, cause),
         None => call,
     }
 }
@@ -56,9 +63,7 @@ fn pei(pc: u32, op: Op, addr: u64, operands: [u64; 4], blocks: u32) -> Call
         Op::Hist => (true, Some(operands[0])),
     };
     match operand_fits(whole_block, shift, addr, blocks) {
-        Some(cause) => Call::End {
-            kind: EndKind::Trap { pc, cause },
-        },
+        Some(cause) => trapped(pc, cause),
         None => Call::Pei {
             op,
             block: block_of(addr),

@@ -75,7 +75,12 @@ impl Core {
     /// An answer that retires the instruction at which the core stopped comes only where it has stopped at one.
     pub fn answer(&mut self, event: &Event)
         requires { IsTrue (retires event.now.kind) → MayRetire self.old }
-        ensures state { (p : Listing) → instr_at p self.old.state.pc ≡ self.old.instr → self.new.state ≡ after_answer p self.old.state event.now.kind }
+        ensures state { (p : Listing) → instr_at p self.old.state.pc ≡ self.old.instr →
+            self.new.state ≡ after_answer p self.old.state event.now.kind }
+
+        // What retires no instruction depends on no program.
+        ensures any_program { retires event.now.kind ≡ false → (p : Listing) →
+            self.new.state ≡ after_answer p self.old.state event.now.kind }
         ensures instr { retires event.now.kind ≡ false → self.new.instr ≡ self.old.instr }
         ensures retired { IsTrue (retires event.now.kind) → self.new.instr ≡ None }
     {
@@ -99,9 +104,13 @@ impl Core {
     /// Goes behind the instruction at which the core stopped.
     fn retire(&mut self)
         requires { MayRetire self.old }
-        ensures { self.new ≡ record { state = after_retiring self.old.state self.old.state.registers self.old.state.waits; instr = None } }
+        ensures { let s = self.old.state
+            in self.new ≡ record { state = after_retiring s s.registers s.waits; instr = None } }
     {
         self.state.retire();
         self.instr = None;
     }
 }
+
+#[cfg(test)]
+mod tests;

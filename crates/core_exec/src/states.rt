@@ -6,6 +6,7 @@ ghost use Rattle.pei_types.specs.Program.{HasRegisters, instr_at};
 ghost use Rattle.core_exec.specs.Standing.{seen, is_asking};
 ghost use Rattle.core_exec.specs.Wait.{seen_wait};
 
+use crate::accesses::trapped;
 use crate::effects::{Effect, execute};
 use crate::next::CoreNext;
 use crate::waits::{ReplyWord, Wait, awaited, lowest_busy, take_reply};
@@ -90,7 +91,9 @@ impl State {
     fn busy(&self, instr: Instr) -> Option<CoreNext>
         requires { HasRegisters instr }
         ensures { MatchOption result (busy_register self.now.waits instr ≡ None)
-            (λ next. (blocks : ℕ) → step_unless_busy blocks self.now instr (busy_register self.now.waits instr) ≡ Stops (seen next)) }
+            (λ next. (blocks : ℕ) →
+            step_unless_busy blocks self.now instr (busy_register self.now.waits instr)
+            ≡ Stops (seen next)) }
     {
         if !self.waiting {
             return None;
@@ -108,11 +111,14 @@ impl State {
         requires size { blocks ≤ 65536 }
         requires ended { self.old.ended ≡ None }
         requires raced { self.old.raced ≡ None }
-        ensures cases { MatchOption result (core_step program.now fuel blocks self.old ≡ Retires self.new)
-            (λ next. (self.new ≡ self.old) × (core_step program.now fuel blocks self.old ≡ Stops (seen next))) }
-        ensures counts { IfNone result ((self.old.retired < fuel) × (self.new.retired ≡ self.old.retired + 1)) }
+        ensures cases { let step = core_step program.now fuel blocks self.old
+            in MatchOption result (step ≡ Retires self.new)
+            (λ next. (self.new ≡ self.old) × (step ≡ Stops (seen next))) }
+        ensures counts { IfNone result
+            ((self.old.retired < fuel) × (self.new.retired ≡ self.old.retired + 1)) }
         ensures runs_on { IfNone result ((self.new.ended ≡ None) × (self.new.raced ≡ None)) }
-        ensures asks { IfSome result (λ next. IsTrue (is_asking next) → IsSome (instr_at program.now self.old.pc) × (self.old.retired < fuel)) }
+        ensures asks { IfSome result (λ next. IsTrue (is_asking next) →
+            IsSome (instr_at program.now self.old.pc) × (self.old.retired < fuel)) }
     {
         if self.retired >= fuel {
             return Some(CoreNext::Call(Call::End {
@@ -120,11 +126,7 @@ impl State {
             }));
         }
         let Some(instr) = instruction_at(program, self.pc) else {
-            let kind = EndKind::Trap {
-                pc: self.pc,
-                cause: TrapCause::Pc,
-            };
-            return Some(CoreNext::Call(Call::End { kind }));
+            return Some(CoreNext::Call(trapped(self.pc, TrapCause::Pc)));
         };
         if let Some(busy) = self.busy(instr) {
             return Some(busy);
@@ -146,7 +148,8 @@ impl State {
         requires { blocks ≤ 65536 }
         ensures stop { self.new ≡ at_stop program.now fuel blocks self.old }
         ensures next { seen result ≡ next_of program.now fuel blocks self.old }
-        ensures asks { IsTrue (is_asking result) → IsSome (instr_at program.now self.new.pc) × (self.new.retired < fuel) }
+        ensures asks { IsTrue (is_asking result) →
+            IsSome (instr_at program.now self.new.pc) × (self.new.retired < fuel) }
     {
         if let Some(kind) = self.ended {
             return CoreNext::Ended(kind);
@@ -164,7 +167,8 @@ impl State {
     /// Takes in the value of a load, in the register that the instruction fills.
     pub fn load(&mut self, instr: Option<Instr>, value: u64)
         requires { IfSome instr HasRegisters }
-        ensures { self.new ≡ record self.old { registers = with_loaded_at self.old.registers instr value } }
+        ensures { self.new
+            ≡ record self.old { registers = with_loaded_at self.old.registers instr value } }
     {
         if let Some(Instr::Ld { rd, .. }) = instr {
             self.registers[rd as usize] = value;
@@ -174,7 +178,8 @@ impl State {
     /// Makes a register wait for a word of a reply.
     fn await_word(&mut self, register: u8, wait: Wait)
         requires { register < 16 }
-        ensures { self.new ≡ record self.old { waits = slice_set self.old.waits register (seen_wait (Some wait)) } }
+        ensures { self.new
+            ≡ record self.old { waits = slice_set self.old.waits register (seen_wait (Some wait)) } }
     {
         self.waits[register as usize] = Some(wait);
         self.waiting = true;
@@ -215,7 +220,11 @@ impl State {
 
     /// Takes in the reply of the core's PEI `seq`.
     pub fn take_reply(&mut self, seq: u32, reply: &Reply)
-        ensures { self.new ≡ record self.old { registers = with_reply seq reply.now self.old.registers self.old.waits; waits = map (wait_after seq) self.old.waits } }
+        ensures { self.new
+            ≡ record self.old {
+              registers = with_reply seq reply.now self.old.registers self.old.waits;
+              waits = map (wait_after seq) self.old.waits;
+            } }
     {
         self.waiting = take_reply(&mut self.registers, &mut self.waits, seq, reply);
     }

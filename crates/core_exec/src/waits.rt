@@ -29,8 +29,9 @@ fn uses(instr: Instr, register: u8) -> bool
 {
     match instr {
         Instr::Jmp { .. } | Instr::Pfence | Instr::Halt => false,
-        Instr::Li { rd: only, .. } | Instr::Pinc { ra: only, .. } | Instr::Out { ra: only } => only
-            == register,
+        Instr::Li { rd: only, .. } | Instr::Pinc { ra: only, .. } | Instr::Out { ra: only } => {
+            only == register
+        }
         Instr::Addi { rd: first, ra, .. }
         | Instr::Andi { rd: first, ra, .. }
         | Instr::Shl { rd: first, ra, .. }
@@ -127,7 +128,8 @@ pub(crate) fn take_reply(
     seq: u32,
     reply: &Reply,
 ) -> bool
-    ensures registers { registers.new ≡ with_reply seq reply.now registers.old (map seen_wait waits.old) }
+    ensures registers { registers.new
+        ≡ with_reply seq reply.now registers.old (map seen_wait waits.old) }
     ensures waits { map seen_wait waits.new ≡ map (wait_after seq) (map seen_wait waits.old) }
     ensures none { result ≡ false → map seen_wait waits.new ≡ replicate 16 None }
 {

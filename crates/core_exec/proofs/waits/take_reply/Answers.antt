@@ -2,7 +2,7 @@ use Rattle.std.proofs.Common.{◌≡◌, ◌<◌, length, None, slice_index, sli
 use Rattle.std.proofs.lemmas.List.{length-set}
 use Rattle.pei_types.specs.Core.{filled, wait_after}
 use Rattle.core_exec.specs.Wait.{seen_wait}
-use Rattle.core_exec.proofs.Replies.{below_more_set, above_more_set, neither, none_of_is_some, with_reply_all, waits_after_all, no_wait_all}
+use Rattle.core_exec.proofs.Replies.{below_more_set, above_more_set, neither, seen_wait-from_is_some, with_reply_all, waits_after_all, no_wait_all}
 use Rattle.core_exec.proofs.waits.take_reply.Goals as goal
 
 pub returns-clause-registers : goal.returns-clause-registers
@@ -33,5 +33,5 @@ loop-i-preserved c =
       same_above = above_more_set registers c.loop-i.registers 0 _ i kept.same_above;
       waits_below = below_more_set (λ k x. seen_wait x ≡ wait_after c.args.seq (seen_wait (slice_index_or waits k None))) c.loop-i.waits None c.wait_after-rest.result i in_waits kept.waits_below (rw (← kept.waits_above i (omega arith)) c.wait_after-rest.ensures);
       waits_above = above_more_set waits c.loop-i.waits None _ i kept.waits_above;
-      none_below = λ none. let both = neither c.loop-i.waiting c.is_some-waiting.result none in below_more_set (λ k x. seen_wait x ≡ None) c.loop-i.waits None c.wait_after-rest.result i in_waits (kept.none_below both.0) (none_of_is_some c.wait_after-rest.result (sym c.is_some-waiting.ensures ∙ both.1));
+      none_below = λ none. let both = neither c.loop-i.waiting c.is_some-waiting.result none in below_more_set (λ k x. seen_wait x ≡ None) c.loop-i.waits None c.wait_after-rest.result i in_waits (kept.none_below both.0) (seen_wait-from_is_some c.wait_after-rest.result (sym c.is_some-waiting.ensures ∙ both.1));
     }
