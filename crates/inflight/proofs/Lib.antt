@@ -1,4 +1,5 @@
 pub mod Counts
+pub mod FencesWait
 pub mod Found
 pub mod FreeLanes
 pub mod InPlace

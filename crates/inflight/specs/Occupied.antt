@@ -43,7 +43,8 @@ pub record IsOneEach (m : MachineSpec) (issues : List ℕ) (peis : List PeiLook)
   pub entries : IsDistinct nat_eq (map place_of peis)
   pub names : IsDistinct nat_eq (map name_of peis)
 
--- and there is room for a PEI in each of the 32 entries, with a number and a fence for each core
+-- and there is room for a PEI in each of the 32 entries, a count and a fence for each core, and the number of bits of
+-- a directory entry
 pub record IsInOrder (i : Inside) : Type 0 where
   pub one_each : IsOneEach i.machine i.issues.items i.peis.items
   pub room : 32 ≤ vec_capacity i.peis

@@ -1,5 +1,6 @@
 -- What the table of PEIs on their way is seen as.
-use Rattle.std.specs.Prelude.{ℕ, suc, ◌+◌, ◌-◌, ◌*◌, ◌<◌, ◌≤◌, List, [], ◌∷◌, ◌++◌, replicate, Option, option_map, slice_index}
+use Rattle.std.specs.Prelude.{ℕ, suc, ◌+◌, ◌-◌, ◌*◌, ◌<◌, ◌≤◌, List, [], ◌∷◌, ◌++◌, replicate, Option, Some, None, option_map, slice_index, slice_set}
+use Rattle.std.specs.Option.{option_map_or}
 use Rattle.pei_types.specs.declared.identifiers.Block.{Block}
 use Rattle.pei_types.specs.declared.identifiers.BlockNo.{BlockNo}
 use Rattle.pei_types.specs.declared.identifiers.CoreId.{CoreId}
@@ -11,7 +12,7 @@ use Rattle.pei_types.specs.declared.operations.Place.TheVariants as place
 use Rattle.pei_types.specs.declared.inflight_looks.Phase.{Phase}
 use Rattle.pei_types.specs.declared.inflight_looks.Phase.TheVariants as phase
 use Rattle.pei_types.specs.declared.machines.MachineSpec.{MachineSpec}
-use Rattle.pei_types.specs.Coherence.{State, start_state, pei_state, look_in}
+use Rattle.pei_types.specs.Coherence.{State, start_state, pei_state, look_in, in_phase, after_leaving, unfinished_writers}
 use Rattle.pei_types.specs.Recency.{change_at}
 
 -- The machine; its state without caches and monitor; and the block in each operand buffer entry.
@@ -63,3 +64,17 @@ after_issuing s c l o b operands =
           ∷ [];
       issues = change_at s.issues c.0 suc;
     }
+
+-- the state with the PEI of a lane in another phase, and without the PEI
+abbrev pub lane_in_phase : State → CoreId → Lane → Phase → State
+lane_in_phase s c l ph = option_map_or (λ p. in_phase s p.id ph) (look_in s c l) s
+
+abbrev pub without_lane : State → CoreId → Lane → State
+without_lane s c l = option_map_or (λ p. after_leaving s p.id) (look_in s c l) s
+
+-- the state after the beginning of a core's fence, and after its end
+abbrev pub after_fence_begin : State → CoreId → State
+after_fence_begin s c = record s { fences = slice_set s.fences c.0 (Some (unfinished_writers s)) }
+
+abbrev pub after_fence_end : State → CoreId → State
+after_fence_end s c = record s { fences = slice_set s.fences c.0 None }

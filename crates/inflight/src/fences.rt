@@ -1,12 +1,12 @@
 //! The memory fence of a core.
 
-ghost use Rattle.std.specs.Prelude.{◌≡◌, ◌≤◌, IfOk, List, None, Some, option_map, is_some, length, map, filter, replicate, slice_get, IsSome};
+ghost use Rattle.std.specs.Prelude.{◌≡◌, ◌≤◌, IfOk, List, None, Some, option_map, is_some, length, map, filter, replicate, slice_get};
 ghost use Rattle.pei_types.specs.declared.identifiers.PeiId.{PeiId};
 ghost use Rattle.pei_types.specs.Blocks.{same_pei};
 ghost use Rattle.pei_types.specs.Operation.{is_writer};
 ghost use Rattle.pei_types.specs.Recency.{without};
 
-use crate::looks::{PLACES, is_same, writes};
+use crate::looks::{PLACES, writes};
 use pei_types::{OutOfMemory, PeiId, PeiLook};
 use std::alloc::Global;
 use std::marker::Model;
@@ -56,7 +56,7 @@ impl Fence {
     pub(crate) fn forget(&mut self, id: PeiId)
         ensures { self.new ≡ option_map (without (λ q. same_pei q id)) self.old }
     {
-        self.waits.retain(|other| !is_same(*other, id));
+        self.waits.retain(|other| *other != id);
     }
 
     /// Ends the fence.
@@ -92,7 +92,7 @@ pub(crate) fn make_fences(alloc: Global, cores: u8) -> Result<Vec<Fence>, OutOfM
     Ok(fences)
 }
 
-/// No fence waits for a PEI any longer.
+/// Takes a PEI out of what each fence waits for.
 pub(crate) fn forget_in_all(fences: &mut [Fence], id: PeiId)
     ensures { fences.new ≡ map (option_map (without (λ q. same_pei q id))) fences.old }
 {

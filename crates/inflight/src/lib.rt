@@ -5,15 +5,14 @@
 mod fences;
 mod looks;
 
-ghost use Rattle.std.specs.Prelude.{◌≡◌, ℕ, ◌-◌, ◌^◌, ◌<◌, ◌≤◌, [], List, None, Some, IfOk, IfSome, IsSome, is_some, slice_get, slice_index, slice_set, replicate, vec_capacity};
+ghost use Rattle.std.specs.Prelude.{◌≡◌, ◌-◌, ◌^◌, ◌<◌, ◌≤◌, [], List, None, Some, IfOk, IfSome, IfNone, IsSome, is_some, slice_get, slice_index, slice_set, replicate, vec_capacity};
 ghost use Rattle.pei_types.specs.declared.identifiers.PeiId.{PeiId};
-ghost use Rattle.pei_types.specs.declared.inflight_looks.PeiLook.{PeiLook};
 ghost use Rattle.pei_types.specs.Limits.{log_two};
-ghost use Rattle.pei_types.specs.Coherence.{look_in, look_of, free_lane, first_unfinished, first_unentered, conflict, entry_is_taken, in_phase, after_leaving, fence_of, unfinished_writers};
-ghost use Rattle.inflight.specs.OnTheWay.{OnTheWay, IsLaneOf, none_issued, zero_block, buffer_place, phase_in, phase_at, after_issuing};
+ghost use Rattle.pei_types.specs.Coherence.{look_in, look_of, free_lane, first_unfinished, first_unentered, conflict, entry_is_taken, fence_of};
+ghost use Rattle.inflight.specs.OnTheWay.{IsLaneOf, none_issued, zero_block, buffer_place, phase_in, phase_at, lane_in_phase, without_lane, after_issuing, after_fence_begin, after_fence_end};
 
 use crate::fences::{Fence, forget_in_all, make_fences};
-use crate::looks::{PLACES, change_phase, drop_pei, has_conflict, is_in, place_in_buffers, writes};
+use crate::looks::{PLACES, change_phase, drop_pei, has_conflict, place_in_buffers, writes};
 use pei_types::{
     Block, BlockNo, CoreId, Lane, MachineSpec, Op, Operands, OutOfMemory, PeiId, PeiLook, Phase,
     Place,
@@ -25,7 +24,7 @@ use std::marker::Model;
 ///
 /// Each is in a lane of its core, 1 to the machine's `buffer`, which has an operand buffer entry. All memory is taken
 /// when the table is made: only `make` can want memory. A core that is handed to a call is one of the machine's, and a
-/// lane is from 1 to `buffer`.
+/// lane is from 1 to `buffer`. The vaults' queues stay empty: no call seals a PEI that is placed in memory.
 #[derive(Drop)]
 pub struct Inflight {
     machine: MachineSpec,
@@ -128,7 +127,8 @@ impl Inflight {
         requires free { look_in self.old.state core lane ≡ None }
         requires numbered { slice_index self.old.state.issues core.0 < 2 ^ 32 - 1 }
         ensures id { result ≡ record { core = core; seq = slice_index self.old.state.issues core.0 } }
-        ensures issued { self.new ≡ record self.old { state = after_issuing self.old.state core lane op block operands.now } }
+        ensures issued { self.new
+            ≡ record self.old { state = after_issuing self.old.state core lane op block operands.now } }
     {
         let issued = self.issues[core.0 as usize];
         self.issues[core.0 as usize] = issued + 1;
@@ -147,11 +147,14 @@ impl Inflight {
     /// The PEI in a lane of a core.
     pub fn look(&self, core: CoreId, lane: Lane) -> Option<PeiLook>
         requires { IsLaneOf self.now.machine core lane }
-        ensures look { result ≡ look_in self.now.state core lane }
+        ensures found { result ≡ look_in self.now.state core lane }
         ensures here { IfSome result (λ p. (p.id.core ≡ core) × (p.lane ≡ lane)) }
         ensures named { IfSome result (λ p. look_of self.now.state p.id ≡ Some p) }
     {
-        self.peis.iter().find(|pei| is_in(pei, core, lane)).copied()
+        self.peis
+            .iter()
+            .find(|pei| pei.id.core == core && pei.lane == lane)
+            .copied()
     }
 
     /// The first PEI of a core, in the order of issue, that has not entered.
@@ -187,7 +190,8 @@ impl Inflight {
     pub fn enter(&mut self, core: CoreId, lane: Lane)
         requires lane { IsLaneOf self.old.machine core lane }
         requires phase { phase_in self.old.state core lane ≡ Some Phase.Issued }
-        ensures { (p : PeiLook) → look_in self.old.state core lane ≡ Some p → self.new ≡ record self.old { state = in_phase self.old.state p.id Phase.Entered } }
+        ensures { self.new
+            ≡ record self.old { state = lane_in_phase self.old.state core lane Phase.Entered } }
     {
         self.advance(core, lane, Phase::Entered);
     }
@@ -196,7 +200,8 @@ impl Inflight {
     pub fn place(&mut self, core: CoreId, lane: Lane, place: Place)
         requires lane { IsLaneOf self.old.machine core lane }
         requires phase { phase_in self.old.state core lane ≡ Some Phase.Entered }
-        ensures { (p : PeiLook) → look_in self.old.state core lane ≡ Some p → self.new ≡ record self.old { state = in_phase self.old.state p.id (phase_at place) } }
+        ensures { self.new
+            ≡ record self.old { state = lane_in_phase self.old.state core lane (phase_at place) } }
     {
         let phase = match place {
             Place::Host => Phase::HostPlaced,
@@ -210,7 +215,11 @@ impl Inflight {
     pub fn host_read(&mut self, core: CoreId, lane: Lane, block: &Block)
         requires lane { IsLaneOf self.old.machine core lane }
         requires phase { phase_in self.old.state core lane ≡ Some Phase.HostPlaced }
-        ensures { (p : PeiLook) → look_in self.old.state core lane ≡ Some p → self.new ≡ record self.old { state = in_phase self.old.state p.id Phase.Read; buffers = slice_set self.old.buffers (buffer_place core lane) block.now } }
+        ensures { self.new
+            ≡ record self.old {
+              state = lane_in_phase self.old.state core lane Phase.Read;
+              buffers = slice_set self.old.buffers (buffer_place core lane) block.now;
+            } }
     {
         self.advance(core, lane, Phase::Read);
         self.buffers[place_in_buffers(core, lane)] = *block;
@@ -230,7 +239,8 @@ impl Inflight {
     pub fn acted(&mut self, core: CoreId, lane: Lane)
         requires lane { IsLaneOf self.old.machine core lane }
         requires phase { phase_in self.old.state core lane ≡ Some Phase.Read }
-        ensures { (p : PeiLook) → look_in self.old.state core lane ≡ Some p → self.new ≡ record self.old { state = in_phase self.old.state p.id Phase.Acted } }
+        ensures { self.new
+            ≡ record self.old { state = lane_in_phase self.old.state core lane Phase.Acted } }
     {
         self.advance(core, lane, Phase::Acted);
     }
@@ -239,7 +249,7 @@ impl Inflight {
     pub fn leave(&mut self, core: CoreId, lane: Lane)
         requires lane { IsLaneOf self.old.machine core lane }
         requires phase { phase_in self.old.state core lane ≡ Some Phase.Acted }
-        ensures { (p : PeiLook) → look_in self.old.state core lane ≡ Some p → self.new ≡ record self.old { state = after_leaving self.old.state p.id } }
+        ensures { self.new ≡ record self.old { state = without_lane self.old.state core lane } }
     {
         if let Some(pei) = self.look(core, lane) {
             drop_pei(&mut self.peis, pei.id);
@@ -263,7 +273,7 @@ impl Inflight {
     pub fn fence_begin(&mut self, core: CoreId)
         requires core { core.0 < self.old.machine.cores }
         requires off { fence_of self.old.state core ≡ None }
-        ensures { self.new ≡ record self.old { state = record self.old.state { fences = slice_set self.old.state.fences core.0 (Some (unfinished_writers self.old.state)) } } }
+        ensures { self.new ≡ record self.old { state = after_fence_begin self.old.state core } }
     {
         self.fences[core.0 as usize].begin(&self.peis);
     }
@@ -281,7 +291,9 @@ impl Inflight {
     pub fn fence_waits(&self, core: CoreId) -> Option<PeiId>
         requires core { core.0 < self.now.machine.cores }
         requires on { IsSome (fence_of self.now.state core) }
-        ensures { (waits : List PeiId) → fence_of self.now.state core ≡ Some waits → result ≡ slice_get waits 0 }
+        ensures first { (waits : List PeiId) → fence_of self.now.state core ≡ Some waits
+            → result ≡ slice_get waits 0 }
+        ensures none { IfNone result (fence_of self.now.state core ≡ Some []) }
     {
         self.fences[core.0 as usize].first()
     }
@@ -290,7 +302,7 @@ impl Inflight {
     pub fn fence_end(&mut self, core: CoreId)
         requires core { core.0 < self.old.machine.cores }
         requires done { fence_of self.old.state core ≡ Some [] }
-        ensures { self.new ≡ record self.old { state = record self.old.state { fences = slice_set self.old.state.fences core.0 None } } }
+        ensures { self.new ≡ record self.old { state = after_fence_end self.old.state core } }
     {
         self.fences[core.0 as usize].end();
     }
@@ -298,10 +310,13 @@ impl Inflight {
     /// Brings the PEI in a lane to a phase.
     fn advance(&mut self, core: CoreId, lane: Lane, phase: Phase)
         requires { IsLaneOf self.old.machine core lane }
-        ensures { (p : PeiLook) → look_in self.old.state core lane ≡ Some p → self.new ≡ record self.old { state = in_phase self.old.state p.id phase } }
+        ensures { self.new ≡ record self.old { state = lane_in_phase self.old.state core lane phase } }
     {
         if let Some(pei) = self.look(core, lane) {
             change_phase(&mut self.peis, pei.id, phase);
         }
     }
 }
+
+#[cfg(test)]
+mod tests;

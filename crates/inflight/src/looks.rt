@@ -2,7 +2,7 @@
 
 ghost use Rattle.std.specs.Prelude.{◌≡◌, ◌≤◌, ◌&&◌, ◌||◌, ◌==◌, not, map, vec_capacity};
 ghost use Rattle.std.specs.List.{list_any};
-ghost use Rattle.pei_types.specs.Blocks.{same_core, same_lane, same_pei, fold_of};
+ghost use Rattle.pei_types.specs.Blocks.{same_pei, fold_of};
 ghost use Rattle.pei_types.specs.Operation.{is_writer};
 ghost use Rattle.pei_types.specs.Coherence.{is_phase, with_phase};
 ghost use Rattle.pei_types.specs.Recency.{without};
@@ -28,25 +28,11 @@ pub(crate) fn place_in_buffers(core: CoreId, lane: Lane) -> usize
     4 * core.0 as usize + lane.0 as usize - 1
 }
 
-/// Whether a PEI is in this lane.
-pub(crate) fn is_in(pei: &PeiLook, core: CoreId, lane: Lane) -> bool
-    ensures { result ≡ (same_core pei.now.id.core core && same_lane pei.now.lane lane) }
-{
-    pei.id.core == core && pei.lane == lane
-}
-
-/// Whether two names are of the same PEI.
-pub(crate) fn is_same(one: PeiId, other: PeiId) -> bool
-    ensures { result ≡ same_pei one other }
-{
-    one == other
-}
-
 /// Brings a PEI to a phase, if it is the PEI `id`.
 fn change_phase_of(pei: &mut PeiLook, id: PeiId, phase: Phase)
     ensures { pei.new ≡ with_phase id phase pei.old }
 {
-    if is_same(pei.id, id) {
+    if pei.id == id {
         pei.phase = phase;
     }
 }
@@ -65,14 +51,19 @@ pub(crate) fn drop_pei(peis: &mut Vec<PeiLook>, id: PeiId)
     ensures items { peis.new.items ≡ without (λ p. same_pei p.id id) peis.old.items }
     ensures capacity { vec_capacity peis.new ≡ vec_capacity peis.old }
 {
-    peis.retain(|other| !is_same(other.id, id));
+    peis.retain(|other| other.id != id);
 }
 
 /// Whether an active PEI has the directory entry of `pei` and may not be active beside it. An entry has `bits` bits.
 pub(crate) fn has_conflict(peis: &[PeiLook], pei: &PeiLook, bits: u32) -> bool
     requires some { 1 ≤ bits }
     requires most { bits ≤ 16 }
-    ensures { result ≡ list_any (λ q. not (is_phase q.phase Phase.Issued) && ((fold_of pei.now.block.0 bits == fold_of q.block.0 bits) && (is_writer pei.now.op || is_writer q.op))) peis.now }
+    ensures { result
+        ≡ list_any
+        (λ q. not (is_phase q.phase Phase.Issued)
+        && ((fold_of pei.now.block.0 bits == fold_of q.block.0 bits)
+        && (is_writer pei.now.op || is_writer q.op)))
+        peis.now }
 {
     let entry = fold(pei.block, bits);
     let pei_writes = writes(pei.op);

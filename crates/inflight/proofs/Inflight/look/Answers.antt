@@ -12,8 +12,8 @@ returns_found c =
     c.copied.ensures
     ∙ find_from_yields_List (λ (p : PeiLook). same_core p.id.core c.args.core && same_lane p.lane c.args.lane) _ _ c.find.result c.find.ensures.ran (YieldsList-from_slice c.self.inside.peis.items cc) (λ x b q k. search rules)
 
-pub returns-clause-look : goal.returns-clause-look
-returns-clause-look c = rw (← c.self.view_is) (returns_found c)
+pub returns-clause-found : goal.returns-clause-found
+returns-clause-found c = rw (← c.self.view_is) (returns_found c)
 
 pub returns-clause-here : goal.returns-clause-here
 returns-clause-here c =
