@@ -2,7 +2,6 @@
 #![tactic(auto)]
 
 ghost use Rattle.std.specs.Prelude.{◌≡◌, [], ◌∷◌, ◌++◌, ◌-◌, ◌<◌, ◌≤◌, ◌↔◌, length, Some, slice_get, IsTrue, IfOk};
-ghost use Rattle.journal.specs.Recorded.{Recorded};
 
 use pei_types::{Event, OutOfMemory};
 use std::alloc::Global;
