@@ -1,0 +1,72 @@
+//! A run of the plain machine by a schedule of actors.
+
+ghost use Rattle.std.specs.Prelude.{◌≡◌, ◌≤◌, ◌*◌, length, IfOk};
+ghost use Rattle.pei_types.specs.Legal.{FlatLegal};
+ghost use Rattle.pei_types.specs.Schedule.{run_at_start};
+ghost use Rattle.sched_run.specs.Choosing.{HasActorsOf};
+ghost use Rattle.sched_run.specs.Scheduled.{IsEndOf, HasPlayed, run_of};
+
+use crate::plain::Plain;
+use crate::policies::Policy;
+use crate::running::Running;
+use history_laws::laws::plain_runs_are_legal;
+use pei_types::{EndKind, Image, MachineSpec, OutOfMemory, Program};
+use std::alloc::Global;
+
+/// How a run by a schedule ended: the machine as it is then, with its journal and memory; how each core ended, if it
+/// did; and the number of turns that were made.
+#[derive(Drop)]
+pub struct SchedEnd {
+    pub fabric: Plain,
+    pub cores: [Option<EndKind>; 8],
+    pub turns: u64,
+}
+
+/// Runs a program on the plain machine, from an image of its memory, for at most `turns` turns.
+///
+/// The run stops earlier where each core has ended, the journal is full, or the list of the policy's actors is at its
+/// end. The conditions are that the image has a word for each word of memory, and that a list has only actors of this
+/// machine. `OutOfMemory` comes only where the memory for the machine could not be had, before the first turn.
+pub fn run_schedule(
+    alloc: Global,
+    program: &Program,
+    spec: &MachineSpec,
+    image: &Image,
+    policy: &Policy,
+    turns: u64,
+) -> Result<SchedEnd, OutOfMemory>
+    requires image { length image.now.words ≡ 8 * spec.now.blocks }
+    requires actors { HasActorsOf spec.now policy.now }
+    ensures run { IfOk result (λ v. IsEndOf spec.now image.now (run_of program.now spec.now image.now policy.now turns) v) }
+    ensures legal { IfOk result (λ v. FlatLegal program.now spec.now image.now v.fabric.journal) }
+{
+    plain_runs_are_legal();
+    let mut running = Running::start(alloc, spec, image)?;
+    let made = play(&mut running, program, policy, turns);
+    Ok(SchedEnd {
+        fabric: running.plain,
+        cores: running.ends,
+        turns: made,
+    })
+}
+
+/// Takes at most so many turns, and answers how many it took.
+fn play(running: &mut Running, program: &Program, policy: &Policy, turns: u64) -> u64
+    requires actors { HasActorsOf running.old.plain.machine policy.now }
+    requires stalls { running.old.stalls ≡ 0 }
+    ensures { HasPlayed program.now running.old.plain.machine policy.now turns result running.old running.new }
+{
+    plain_runs_are_legal();
+    let machine = running.plain.machine();
+    let mut draws = policy.draws();
+    for made in 0..turns {
+        if running.is_over() {
+            return made;
+        }
+        let Some(actor) = policy.choose(&mut draws, &machine, made, running.stalls) else {
+            return made;
+        };
+        running.turn(program, actor);
+    }
+    turns
+}
