@@ -3,3 +3,4 @@ pub mod Reading
 pub mod Memory
 pub mod MemoryFiles
 pub mod Tally
+pub mod Laws

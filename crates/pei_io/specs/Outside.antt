@@ -1,5 +1,5 @@
 -- What calls do to outside objects.
-use Rattle.std.specs.Prelude.{◌≡◌, ◌≢◌, ◌⊎◌, ⊤, ℕ, ◌+◌, ◌-◌, ◌^◌, ◌<◌, ◌≤◌, min, List, ◌++◌, take, drop, length, Option, Some, None, IfSome, Result, Ok, Err}
+use Rattle.std.specs.Prelude.{◌≡◌, ◌≢◌, ◌⊎◌, ℕ, ◌-◌, ◌^◌, ◌<◌, ◌≤◌, min, List, ◌++◌, take, drop, length, Option, Some, IfSome, Result, Ok, Err}
 use Rattle.pei_io.specs.declared.files.Which.{Which}
 use Rattle.pei_io.specs.declared.files.Failed.{Failed}
 

@@ -1,5 +1,5 @@
 -- What adapters over real files keep of them.
-use Rattle.std.specs.Prelude.{◌≡◌, ℕ, List, Option, Some, None}
+use Rattle.std.specs.Prelude.{◌≡◌, ℕ, List, [], Option, Some, None}
 use Rattle.std.proofs.Common.{ap}
 use Rattle.pei_io.specs.declared.files.Which.{Which}
 use Rattle.pei_io.specs.declared.files.Which.TheVariants as which
@@ -32,3 +32,14 @@ faults_told t w = (tally_at t w).faults
 -- of a file that was not opened nothing was read
 pub nothing_taken_told : (t : Tallies) (w : Which) → name_told t w ≡ None → taken_told t w ≡ 0
 nothing_taken_told t w e = ap (λ name. taken_if name (tally_at t w).taken) e
+
+-- that of one of three files
+abbrev pub of_file : {A : Type 0} → A → A → A → Which → A
+of_file program machine trace which.Program = program
+of_file program machine trace which.Machine = machine
+of_file program machine trace which.Trace = trace
+
+-- what an opened file of std has left, where it tells that; nothing where opening failed
+abbrev pub std_left : {A : Type 0} → (A → Option (List ℕ)) → Option A → Option (List ℕ)
+std_left remaining (Some file) = remaining file
+std_left remaining None = Some []

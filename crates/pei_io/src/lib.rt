@@ -4,6 +4,7 @@
 mod bytes;
 mod disk;
 mod files;
+pub mod laws;
 mod mem_file;
 mod mem_files;
 mod mem_sink;
@@ -24,3 +25,6 @@ pub use sink::{Sink, write_all};
 pub use standard_output::OutSink;
 pub use sure::{SureFiles, SureSink};
 pub use text::Text;
+
+#[cfg(test)]
+mod tests;

@@ -1,6 +1,6 @@
 //! One file in memory.
 
-ghost use Rattle.std.specs.Prelude.{◌≡◌, ◌≤◌, ◌<◌, ◌+◌, ◌↔◌, length, take, drop, None, Some, Ok, IfOk, OnErr, IsErr, IsTrue};
+ghost use Rattle.std.specs.Prelude.{◌≡◌, ◌≤◌, ◌<◌, ◌+◌, ◌↔◌, length, take, drop, None, Some, Ok, OnOk, IfOk, OnErr, IsErr, IsTrue};
 ghost use Rattle.pei_io.specs.Outside.{counted, Rose, Takes};
 ghost use Rattle.pei_io.specs.Memory.{left_of, read_len, taken_of};
 
@@ -99,6 +99,9 @@ impl MemFile {
         ensures failed { OnErr result (Rose self.old.faults self.new.faults) }
         ensures rising { self.old.faults ≤ self.new.faults }
         ensures same { (self.new.content ≡ self.old.content) × (self.new.name ≡ self.old.name) }
+        ensures count { IfOk result (λ n. n ≡ read_len most (length buf.old) (left_of self.old)) }
+        ensures faultless { OnOk result (self.new.faults ≡ self.old.faults) }
+        ensures faults { OnErr result (self.new.faults ≡ counted (self.old.faults + 1)) }
     {
         if fails {
             self.fail();

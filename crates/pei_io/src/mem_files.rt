@@ -54,7 +54,7 @@ impl MemFiles {
     fn is_to_fail(&mut self) -> bool
         ensures fails { IsTrue result ↔ Contains self.old.fails.items (counted (self.old.reads + 1)) }
         ensures number { self.new.reads ≡ counted (self.old.reads + 1) }
-        ensures kept { self.new.fails.items ≡ self.old.fails.items }
+        ensures kept { (self.new.fails.items ≡ self.old.fails.items) × (self.new.most ≡ self.old.most) }
         ensures files { (self.new.program ≡ self.old.program) × (self.new.machine ≡ self.old.machine) × (self.new.trace ≡ self.old.trace) }
     {
         self.reads = self.reads.saturating_add(1);
@@ -64,7 +64,8 @@ impl MemFiles {
 }
 
 impl Files for MemFiles {
-    ghost use Rattle.pei_io.specs.MemoryFiles.{held_in, left_in, name_in, taken_in, faults_in, nothing_taken_in};
+    ghost use Rattle.pei_io.specs.Memory.{read_len, left_of};
+    ghost use Rattle.pei_io.specs.MemoryFiles.{file_at, held_in, left_in, name_in, taken_in, faults_in, nothing_taken_in};
 
     ghost held = { held_in };
 
@@ -80,6 +81,8 @@ impl Files for MemFiles {
         requires { name_in self.old which ≡ None }
         ensures opens { IsOk result }
         ensures kept { self.new.fails.items ≡ self.old.fails.items }
+        ensures same { (self.new.most ≡ self.old.most) × (self.new.reads ≡ self.old.reads) }
+        ensures faultless { faults_in self.new which ≡ faults_in self.old which }
         ensures named { name_in self.new which ≡ Some file }
         ensures ok { OnOk result (left_in self.new which ≡ held_in self.old which file) }
         ensures failed { OnErr result (Rose (faults_in self.old which) (faults_in self.new which)) }
@@ -99,6 +102,10 @@ impl Files for MemFiles {
         ensures fails { IsErr result ↔ Contains self.old.fails.items (counted (self.old.reads + 1)) }
         ensures number { self.new.reads ≡ counted (self.old.reads + 1) }
         ensures kept { self.new.fails.items ≡ self.old.fails.items }
+        ensures same { self.new.most ≡ self.old.most }
+        ensures count { IfOk result (λ n. n ≡ read_len self.old.most (length buf.old) (left_of (file_at self.old which))) }
+        ensures faultless { OnOk result (faults_in self.new which ≡ faults_in self.old which) }
+        ensures faults { OnErr result (faults_in self.new which ≡ counted (faults_in self.old which + 1)) }
         ensures within { IfOk result (λ n. n ≤ length buf.old) }
         ensures bytes { IfOk result (λ n. Takes n buf.new (left_in self.old which) (left_in self.new which)) }
         ensures end { result ≡ Ok 0 → 0 < length buf.old → IfSome (left_in self.old which) (λ rest. length rest ≡ 0) }

@@ -1,6 +1,6 @@
 //! A sink in memory.
 
-ghost use Rattle.std.specs.Prelude.{◌≡◌, ◌≤◌, ◌<◌, ◌+◌, [], length, IfOk, OnErr, Contains, IsErr, IsTrue, ◌↔◌, ◌⊎◌, ◌++◌, vec_len, vec_capacity, take, min, ◌-◌};
+ghost use Rattle.std.specs.Prelude.{◌≡◌, ◌≤◌, ◌<◌, ◌+◌, [], length, OnOk, IfOk, OnErr, Contains, IsErr, IsTrue, ◌↔◌, ◌⊎◌, ◌++◌, vec_len, vec_capacity, take, min, ◌-◌};
 ghost use Rattle.pei_io.specs.Outside.{Rose, Added, counted};
 
 use crate::files::Failed;
@@ -79,6 +79,9 @@ impl Sink for MemSink {
         ensures some { 0 < length piece.now → IfOk result (λ n. 0 < n) }
         ensures bytes { IfOk result (λ n. self.new.taken.items ≡ self.old.taken.items ++ take n piece.now) }
         ensures err { OnErr result (self.new.taken.items ≡ self.old.taken.items) }
+        ensures kept { (self.new.fails.items ≡ self.old.fails.items) × (self.new.room ≡ self.old.room) × (self.new.most ≡ self.old.most) }
+        ensures faultless { OnOk result (self.new.faults ≡ self.old.faults) }
+        ensures faults { OnErr result (self.new.faults ≡ counted (self.old.faults + 1)) }
         ensures failed { OnErr result (Rose self.old.faults self.new.faults) }
         ensures rising { self.old.faults ≤ self.new.faults }
     {

@@ -1,6 +1,6 @@
 //! Outside objects that never fail.
 
-ghost use Rattle.std.specs.Prelude.{◌≡◌, [], IfOk};
+ghost use Rattle.std.specs.Prelude.{◌≡◌, ◌≤◌, ◌<◌, [], length, Ok, IfOk};
 
 use crate::files::{Failed, Files, Which};
 use crate::mem_files::MemFiles;
@@ -75,7 +75,11 @@ impl Sink for SureSink {
 
     ghost faults = { λ s. 0 };
 
-    fn write(&mut self, piece: &[u8]) -> Result<usize, Failed> {
+    fn write(&mut self, piece: &[u8]) -> Result<usize, Failed>
+        ensures whole { result ≡ Ok (length piece.now) }
+        ensures within { IfOk result (λ n. n ≤ length piece.now) }
+        ensures some { 0 < length piece.now → IfOk result (λ n. 0 < n) }
+    {
         Ok(piece.len())
     }
 }

@@ -64,7 +64,8 @@ pub(crate) struct Tallies {
 impl Tallies {
     /// No call was made.
     pub(crate) fn new() -> Tallies
-        ensures { (which : Which) → (name_told result which ≡ None) × (faults_told result which ≡ 0) }
+        ensures unopened { (which : Which) → name_told result which ≡ None }
+        ensures faultless { (which : Which) → faults_told result which ≡ 0 }
     {
         Tallies {
             program: Tally::new(),

@@ -1,4 +1,4 @@
-use Rattle.std.proofs.Common.{◌≡◌, ◌≤◌, ◌++◌, length, take, drop, arith, ap, sym, ◌∙◌, append_assoc}
+use Rattle.std.proofs.Common.{◌++◌, length, take, arith, ap, ◌∙◌, append_assoc}
 use Rattle.std.proofs.lemmas.List.{take-append-drop}
 use Rattle.pei_io.proofs.Progress.{added_more, front_added, front_fits, rose_later}
 use Rattle.pei_io.proofs.sink.write_all.Goals as goal
