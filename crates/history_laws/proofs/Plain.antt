@@ -1,5 +1,7 @@
 -- Runs of the plain machine are legal on the flat machine.
 use Rattle.std.proofs.Common.{◌≡◌, inl, inr, ℕ, zero, suc, ◌+◌, ◌*◌, ◌/◌, ◌%◌, ◌<◌, ◌≤◌, Bool, true, false, not, ◌||◌, if◌then◌else◌, List, [], ◌∷◌, ◌++◌, length, Option, Some, None, IsTrue, refl, sym, ◌∙◌, ap, subst, arith, lt-ltb, le-leb, slice_index, ◌==◌, mod-lt, div-lt_iff_lt-mul, mul-pos}
+use Rattle.std.specs.Prelude.{slice_get}
+use Rattle.std.specs.List.{list_all}
 use Rattle.pei_types.specs.declared.identifiers.Actor.{Actor}
 use Rattle.pei_types.specs.declared.identifiers.BlockNo.{BlockNo}
 use Rattle.pei_types.specs.declared.identifiers.Lane.{Lane}
@@ -27,7 +29,7 @@ use Rattle.pei_types.specs.FlatMemory.{flat_block}
 use Rattle.pei_types.specs.Legal.{FlatLegal, MeetsFlatOf, MeetsFlat}
 use Rattle.pei_types.specs.Next.{Turn, Makes, Stalls, race_or, issue_row, fence_row, draining_or, enter_row, act_kind}
 use Rattle.pei_types.specs.Program.{Listing, Contents}
-use Rattle.pei_types.specs.Schedule.{Run, Policy, plain_call, plain_pei, plain_lane, plain_table, by_row, program_step, step_of_lane, turn, run_at_start, next_actor, scheduled_run_from, scheduled_run, actor_at, actors, round_robin, serial, by_draws}
+use Rattle.pei_types.specs.Schedule.{Run, Policy, plain_call, plain_pei, plain_lane, plain_table, by_row, program_step, step_of_lane, turn, run_at_start, next_actor, scheduled_run_from, scheduled_run, actor_at, actors, round_robin, serial, by_draws, by_list}
 use Rattle.pei_types.proofs.Histories.{each_push, each_of_from}
 use Rattle.pei_types.proofs.Pushes.{state_after-push}
 use Rattle.history_laws.specs.Tracking.{Agrees}
@@ -35,6 +37,7 @@ use Rattle.history_laws.specs.Entering.{InTurn}
 use Rattle.history_laws.specs.Fits.{Fits, AsksForFence}
 use Rattle.history_laws.specs.Sound.{Sound, SoundRun, IsSoundEvent, ChoosesActors}
 use Rattle.history_laws.proofs.Agree.{same_pei_is}
+use Rattle.history_laws.proofs.Lists.{and_both}
 use Rattle.history_laws.proofs.Steps.{agrees_next, agrees_at_start}
 use Rattle.history_laws.proofs.Entering.{in_turn_next, in_turn_at_start}
 use Rattle.history_laws.proofs.Fences.{settles_next, settles_at_start}
@@ -242,3 +245,12 @@ serial_chooses m turns stalls a h = spread m stalls a h
 
 pub draws_choose : (m : MachineSpec) (f : ℕ → ℕ) → ChoosesActors m (by_draws m f)
 draws_choose m f turns stalls a h = spread m (f turns) a h
+
+-- a list of the machine's actors
+at_place : (m : MachineSpec) (list : List Actor) (n : ℕ) (a : Actor) → list_all (is_actor_of m) list ≡ true → slice_get list n ≡ Some a → is_actor_of m a ≡ true
+at_place m [] n a all h = absurd (cc h)
+at_place m (b ∷ list) zero a all h = subst (λ c. is_actor_of m c ≡ true) (some_actor b a h) ((and_both (is_actor_of m b) (list_all (is_actor_of m) list) all).0)
+at_place m (b ∷ list) (suc n) a all h = at_place m list n a ((and_both (is_actor_of m b) (list_all (is_actor_of m) list) all).1) h
+
+pub lists_choose : (m : MachineSpec) (list : List Actor) → IsTrue (list_all (is_actor_of m) list) → ChoosesActors m (by_list list)
+lists_choose m list all turns stalls a h = at_place m list turns a all h

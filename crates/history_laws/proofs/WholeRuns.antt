@@ -43,7 +43,8 @@ use Rattle.history_laws.specs.Members.{In}
 use Rattle.history_laws.specs.Tracking.{is_past_issue, Agrees}
 use Rattle.history_laws.specs.Fits.{Fits, EntersFree}
 use Rattle.history_laws.specs.Holding.{claim_at, holds_entry, same_mode, count_in, count_all, counted, Holding}
-use Rattle.history_laws.specs.Sound.{SoundRun, ChoosesActors, GoesByRow}
+use Rattle.history_laws.specs.Runs.{WholeRun}
+use Rattle.history_laws.specs.Sound.{ChoosesActors, GoesByRow}
 use Rattle.history_laws.proofs.Lists.{find_Some, and_both, change_at_same, or-false, some_is, or_parts_cases}
 use Rattle.history_laws.proofs.Agree.{same_pei_is, Moves, moved, new_look}
 use Rattle.history_laws.proofs.Steps.{moves_place_host, moves_place_memory, moves_read, moves_seal, moves_act, keeps_placing, keeps_reading, keeps_acting, keeps_invalidating, keeps_downgrading}
@@ -162,13 +163,6 @@ holding_next x m image journal s entries claims a (event.Act seq reply) g f e h 
     (follows_moved m s (next_state m s a (event.Act seq reply)) entries claims (pei_id a seq) phase.Acted (ap (map (with_phase (pei_id a seq) phase.Acted)) (keeps_acting m s (look_of s (pei_id a seq))).peis) (has_moved m s journal entries claims a (event.Act seq reply) seq phase.Acted f.1.1.0 (moves_act seq reply) refl refl g f.1.1.1 f.1.1.2 f.1.1.3 h) h) h
 
 -- ---- a run so far
-
--- a run of the whole machine: its journal is a sound run's, and its directory counts who holds what
-pub record WholeRun (p : Listing) (m : MachineSpec) (image : Contents) (r : Run) : Type 0 where
-  pub run : SoundRun p m image r.journal
-  pub holding : Holding m (state_after m r.journal) r.entries r.claims
-  pub rows : EachEvent (GoesByRow p m image) r.journal
-  pub within : length r.journal ≤ m.events
 
 stalled : (p : Listing) (m : MachineSpec) (image : Contents) (r : Run) → WholeRun p m image r → WholeRun p m image (after_stall r)
 stalled p m image r d = record { run = d.run; holding = d.holding; rows = d.rows; within = d.within }
@@ -358,6 +352,26 @@ tried p m image r a l k actor here same free d = by (is_granted (claims_at r (en
     by true e = granted_run e
     by false e = stalled p m image r d
 
+-- what a lane holds is its PEI's entry, in its PEI's mode
+held_is_own : (m : MachineSpec) (s : State) (entries : List Claims) (claims : List (List LaneClaim)) (a : Actor) (l : PeiLook) (at : ℕ) (k : Mode) → Holding m s entries claims → look_in s a.core a.lane ≡ Some l → claim_at claims a.core.0 a.lane.0 ≡ Held at k → claim_at claims a.core.0 a.lane.0 ≡ Held (entry_of m l.block) (mode_of l.op)
+held_is_own m s entries claims a l at k holding here claim =
+    let q = holding.held a at k claim
+    in let same : q.0 ≡ l = some_is q.0 l (sym q.1 ∙ here)
+    in claim ∙ ap₂ Held (sym q.2 ∙ ap (λ z. entry_of m z.block) same) (sym q.3 ∙ ap (λ z. mode_of z.op) same)
+
+-- so its PEI, if it has not entered, finds the entry free
+held_is_free : (m : MachineSpec) (s : State) (entries : List Claims) (claims : List (List LaneClaim)) (a : Actor) (l : PeiLook) (at : ℕ) (k : Mode) → Holding m s entries claims → look_in s a.core a.lane ≡ Some l → l.phase ≡ phase.Issued → claim_at claims a.core.0 a.lane.0 ≡ Held at k → entry_is_taken m s l ≡ false
+held_is_free m s entries claims a l at k holding here issued claim =
+    let seen = find_Some (λ z. same_core z.id.core a.core && same_lane z.lane a.lane) s.peis l here
+    in let both = and_both (same_core l.id.core a.core) (same_lane l.lane a.lane) seen.1
+    in entry_free m s entries claims l seen.0 (ap (λ ph. not (is_phase ph phase.Issued)) issued)
+    (ap₂ (claim_at claims) (eqb-true l.id.core.0 a.core.0 both.0) (eqb-true l.lane.0 a.lane.0 both.1) ∙ held_is_own m s entries claims a l at k holding here claim) holding
+
+pub held_enters_free : (m : MachineSpec) (s : State) (entries : List Claims) (claims : List (List LaneClaim)) (a : Actor) (kind : EventKind) (l : PeiLook) (at : ℕ) (k : Mode) → Holding m s entries claims → look_in s a.core a.lane ≡ Some l → l.phase ≡ phase.Issued → claim_at claims a.core.0 a.lane.0 ≡ Held at k → EntersFree m s a kind
+held_enters_free m s entries claims a (event.Enter seq) l at k holding here issued claim =
+    λ z there. subst (λ y. entry_is_taken m s y ≡ false) (some_is l z (sym here ∙ there)) (held_is_free m s entries claims a l at k holding here issued claim)
+held_enters_free m s entries claims a _ l at k holding here issued claim = tt
+
 -- a lane that holds its entry makes its row under the grant
 held_row : (p : Listing) (m : MachineSpec) (image : Contents) (r : Run) (a : Actor) (l : PeiLook) (at : ℕ) (k : Mode) → IsReady m r a → 0 < a.lane.0 → look_in (state_after m r.journal) a.core a.lane ≡ Some l → l.phase ≡ phase.Issued → claim_of r a ≡ Held at k → WholeRun p m image r → WholeRun p m image (by_row r a (lane_row m (state_after m r.journal) (flat_block image r.journal) true (Some l)))
 held_row p m image r a l at k ready lane here issued claim d =
@@ -367,27 +381,14 @@ held_row p m image r a l at k ready lane here issued claim d =
     s = state_after m r.journal
 
     mine : claim_at r.claims a.core.0 a.lane.0 ≡ Held (entry_of m l.block) (mode_of l.op)
-    mine =
-        let q = d.holding.held a at k claim
-        in let same : q.0 ≡ l = some_is q.0 l (sym q.1 ∙ here)
-        in claim ∙ ap₂ Held (sym q.2 ∙ ap (λ z. entry_of m z.block) same) (sym q.3 ∙ ap (λ z. mode_of z.op) same)
-
-    seen : In l s.peis × ((same_core l.id.core a.core && same_lane l.lane a.lane) ≡ true)
-    seen = find_Some (λ z. same_core z.id.core a.core && same_lane z.lane a.lane) s.peis l here
-
-    place : (l.id.core.0 ≡ a.core.0) × (l.lane.0 ≡ a.lane.0)
-    place = let both = and_both (same_core l.id.core a.core) (same_lane l.lane a.lane) seen.1 in (eqb-true l.id.core.0 a.core.0 both.0, eqb-true l.lane.0 a.lane.0 both.1)
+    mine = held_is_own m s r.entries r.claims a l at k d.holding here claim
 
     free : entry_is_taken m s l ≡ false
-    free = entry_free m s r.entries r.claims l seen.0 (ap (λ ph. not (is_phase ph phase.Issued)) issued) (ap₂ (claim_at r.claims) place.0 place.1 ∙ mine) d.holding
+    free = held_is_free m s r.entries r.claims a l at k d.holding here issued claim
 
     enters : (kind : EventKind) → EntersHeld m s r.claims a kind
     enters (event.Enter seq) = λ z there. mine ∙ ap (λ y. Held (entry_of m y.block) (mode_of y.op)) (some_is l z (sym here ∙ there))
     enters _ = tt
-
-    frees : (kind : EventKind) → EntersFree m s a kind
-    frees (event.Enter seq) = λ z there. subst (λ y. entry_is_taken m s y ≡ false) (some_is l z (sym here ∙ there)) free
-    frees _ = tt
 
     row : (kind : EventKind) → pei_row m s (flat_block image r.journal) true l l.phase ≡ Makes kind → Fits (next_of_core p m image r.journal a.core) m image r.journal s a kind × EntersHeld m s r.claims a kind × GoesByRow p m image r.journal (record { actor = a; kind = kind })
     row kind h =
@@ -395,7 +396,7 @@ held_row p m image r a l at k ready lane here issued claim d =
         in (
           fits_pei_row (next_of_core p m image r.journal a.core) m image r.journal s a kind l ready.0 lane here true (λ _. free) l.phase refl h,
           enters kind,
-          (ready.0, frees kind, (ready.1, subst (λ g. turn_of (next_of_core p m image r.journal a.core) m image r.journal a g ≡ Some (Makes kind)) (sym entering) (next_in_lane (next_of_core p m image r.journal a.core) m image r.journal a kind l true lane here h))),
+          (ready.0, held_enters_free m s r.entries r.claims a kind l at k d.holding here issued claim, (ready.1, subst (λ g. turn_of (next_of_core p m image r.journal a.core) m image r.journal a g ≡ Some (Makes kind)) (sym entering) (next_in_lane (next_of_core p m image r.journal a.core) m image r.journal a kind l true lane here h))),
         )
 
 toward : (p : Listing) (m : MachineSpec) (image : Contents) (r : Run) (a : Actor) (l : PeiLook) → IsReady m r a → 0 < a.lane.0 → look_in (state_after m r.journal) a.core a.lane ≡ Some l → l.phase ≡ phase.Issued → (k : Mode) (x : LaneClaim) → mode_of l.op ≡ k → claim_of r a ≡ x → WholeRun p m image r → WholeRun p m image (toward_enter (whole_table m image) r a l (entry_of m l.block) k x)
@@ -499,9 +500,12 @@ holding_at_start m =
     all_free : (c l : ℕ) → claim_at (replicate m.cores (replicate (m.buffer + 1) Free)) c l ≡ Free
     all_free c l = row_free m.cores c l
 
+pub whole_at_start : (p : Listing) (m : MachineSpec) (image : Contents) → WholeRun p m image (run_at_start m)
+whole_at_start p m image = record { run = run_starts p m image; holding = holding_at_start m; rows = each_of_from (GoesByRow p m image) [] tt; within = omega arith }
+
 -- Every scheduled run of the whole machine has a sound journal, which is legal on the flat machine.
 pub whole_runs_sound : (p : Listing) (m : MachineSpec) (image : Contents) (policy : Policy) (n : ℕ) → ChoosesActors m policy → WholeRun p m image (scheduled_run (whole_table m image) p m image policy n)
-whole_runs_sound p m image policy n chooses = whole_runs_from p m image policy n (run_at_start m) chooses (record { run = run_starts p m image; holding = holding_at_start m; rows = each_of_from (GoesByRow p m image) [] tt; within = omega arith })
+whole_runs_sound p m image policy n chooses = whole_runs_from p m image policy n (run_at_start m) chooses (whole_at_start p m image)
 
 pub whole_runs_legal : (p : Listing) (m : MachineSpec) (image : Contents) (policy : Policy) (n : ℕ) → ChoosesActors m policy → FlatLegal p m image (scheduled_run (whole_table m image) p m image policy n).journal
 whole_runs_legal p m image policy n chooses = (whole_runs_sound p m image policy n chooses).run.legal

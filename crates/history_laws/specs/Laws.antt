@@ -1,18 +1,20 @@
 -- The laws of this crate.
-use Rattle.std.specs.Prelude.{true, false, ◌≡◌, ℕ, Bool, not, ◌&&◌, IsTrue, List, [], ◌∷◌, ◌++◌, map, filter, find, Some, None, option_map}
-use Rattle.std.specs.List.{AllPairs}
+use Rattle.std.specs.Prelude.{true, false, ◌≡◌, ℕ, ◌<◌, length, Bool, not, ◌&&◌, IsTrue, List, [], ◌∷◌, ◌++◌, map, filter, find, Some, None, option_map}
+use Rattle.std.specs.List.{list_all, AllPairs}
 use Rattle.pei_types.specs.declared.identifiers.Actor.{Actor}
 use Rattle.pei_types.specs.declared.identifiers.BlockNo.{BlockNo}
 use Rattle.pei_types.specs.declared.identifiers.CoreId.{CoreId}
 use Rattle.pei_types.specs.declared.identifiers.PeiId.{PeiId}
 use Rattle.pei_types.specs.declared.inflight_looks.PeiLook.{PeiLook}
 use Rattle.pei_types.specs.declared.inflight_looks.Phase.{Phase}
+use Rattle.pei_types.specs.declared.inflight_looks.Phase.TheVariants as phase
+use Rattle.pei_types.specs.declared.operations.Mode.{Mode}
 use Rattle.pei_types.specs.declared.events.Event.{Event}
 use Rattle.pei_types.specs.declared.events.EventKind.{EventKind}
 use Rattle.pei_types.specs.declared.machines.MachineSpec.{MachineSpec}
 use Rattle.pei_types.specs.Blocks.{entry_of, same_core, same_pei, same_lane}
 use Rattle.pei_types.specs.Calls.{AnswersCall, all_left, is_actor_of, FollowsPei, follows_phase}
-use Rattle.pei_types.specs.Coherence.{State, entry_is_taken, start_state, next_state, state_after, conflict, first_unentered, first_unfinished, fence_of, look_of, pei_id}
+use Rattle.pei_types.specs.Coherence.{State, entry_is_taken, start_state, next_state, state_after, conflict, first_unentered, first_unfinished, fence_of, look_in, look_of, pei_id}
 use Rattle.pei_types.specs.Core.{CoreNext, next_of_core}
 use Rattle.pei_types.specs.Fence.{earlier_writers_left}
 use Rattle.pei_types.specs.History.{Pei, pei_of, phase_of, issued_peis, has_entered, unfinished_peis, active_peis}
@@ -22,12 +24,13 @@ use Rattle.pei_types.specs.Turns.{IsNextOf, PlacesByMonitor}
 use Rattle.pei_types.specs.Operation.{mode_of}
 use Rattle.pei_types.specs.Program.{Listing, Contents}
 use Rattle.pei_types.specs.Race.{racing_pei}
-use Rattle.pei_types.specs.Schedule.{Run, turn, Policy, LaneClaim, Held, whole_table, plain_table, scheduled_run, round_robin, serial, by_draws}
+use Rattle.pei_types.specs.Schedule.{Run, run_at_start, turn, Policy, LaneClaim, Held, whole_table, plain_table, scheduled_run, round_robin, serial, by_draws, by_list}
 use Rattle.pei_types.specs.Claims.{Claims}
 use Rattle.history_laws.specs.Holding.{claim_at, Holding}
 use Rattle.history_laws.specs.Members.{In}
 use Rattle.history_laws.specs.Tracking.{as_issued, is_past_issue, IsTracked, Agrees, issues_next, IsTrackable}
 use Rattle.history_laws.specs.Fits.{Fits, AsksForFence, EntersFree}
+use Rattle.history_laws.specs.Runs.{WholeRun}
 use Rattle.history_laws.specs.Sound.{Sound, IsSoundEvent, SoundRun, ChoosesActors, IssuesUnfenced, GoesByRow, MeetsState}
 
 -- The state after a journal agrees with its history, where each event answers some call of its core or is its PEI's
@@ -70,7 +73,7 @@ pub record RunsGoOn : Type 0 where
   pub next : (p : Listing) (m : MachineSpec) (image : Contents) (journal : List Event) (a : Actor) (kind : EventKind) → Fits (next_of_core p m image journal a.core) m image journal (state_after m journal) a kind → SoundRun p m image journal → SoundRun p m image (journal ++ record { actor = a; kind = kind } ∷ [])
 
 -- Every scheduled run of the plain machine is legal on the flat machine, by any policy that chooses the machine's
--- actors, as the built-in ones do.
+-- actors, as the built-in ones do, and a list of such actors.
 pub record PlainRunsAreLegal : Type 0 where
   pub legal : (p : Listing) (m : MachineSpec) (image : Contents) (policy : Policy) (n : ℕ) → ChoosesActors m policy → FlatLegal p m image (scheduled_run (plain_table m image) p m image policy n).journal
   pub sound : (p : Listing) (m : MachineSpec) (image : Contents) (policy : Policy) (n : ℕ) → ChoosesActors m policy → SoundRun p m image (scheduled_run (plain_table m image) p m image policy n).journal
@@ -78,6 +81,7 @@ pub record PlainRunsAreLegal : Type 0 where
   pub turns : (m : MachineSpec) → ChoosesActors m (round_robin m)
   pub serial : (m : MachineSpec) → ChoosesActors m (serial m)
   pub draws : (m : MachineSpec) (f : ℕ → ℕ) → ChoosesActors m (by_draws m f)
+  pub lists : (m : MachineSpec) (list : List Actor) → IsTrue (list_all (is_actor_of m) list) → ChoosesActors m (by_list list)
 
 -- A legal journal is that of a sound run; one of the machine alone is sound where no core issues while its fence is on.
 pub record JournalsAreSound : Type 0 where
@@ -93,14 +97,19 @@ pub record NextEventsMeet : Type 0 where
   pub flat : (x : CoreNext) (m : MachineSpec) (image : Contents) (journal : List Event) (a : Actor) (kind : EventKind) → Sound m journal → IsTrue (is_actor_of m a) → EntersFree m (state_after m journal) a kind → IsNextOf x m image journal a kind → MeetsFlat x m image journal (record { actor = a; kind = kind })
   pub sound : (x : CoreNext) (m : MachineSpec) (image : Contents) (journal : List Event) (a : Actor) (kind : EventKind) → Sound m journal → IsTrue (is_actor_of m a) → EntersFree m (state_after m journal) a kind → AsksForFence x journal a.core → IsNextOf x m image journal a kind → Sound m (journal ++ record { actor = a; kind = kind } ∷ [])
 
--- Every scheduled run of the whole machine is legal on the flat machine too, by any policy that chooses the machine's
--- actors; each of its events is its actor's next row; and its directory counts who holds what, so a PEI that holds its entry and has not entered finds it free.
+-- A run of the whole machine starts sound, with a directory that counts who holds what, and a turn of an actor of the
+-- machine keeps it so while the journal has room. So every scheduled run is legal on the flat machine too, by any policy
+-- that chooses the machine's actors; each of its events is its actor's next row; and a PEI that has not entered finds its
+-- entry free where it, or its lane, holds it.
 pub record WholeRunsAreLegal : Type 0 where
+  pub start : (p : Listing) (m : MachineSpec) (image : Contents) → WholeRun p m image (run_at_start m)
+  pub step : (p : Listing) (m : MachineSpec) (image : Contents) (r : Run) (a : Actor) → IsTrue (is_actor_of m a) → length r.journal < m.events → WholeRun p m image r → WholeRun p m image (turn (whole_table m image) p m image r a)
   pub legal : (p : Listing) (m : MachineSpec) (image : Contents) (policy : Policy) (n : ℕ) → ChoosesActors m policy → FlatLegal p m image (scheduled_run (whole_table m image) p m image policy n).journal
   pub sound : (p : Listing) (m : MachineSpec) (image : Contents) (policy : Policy) (n : ℕ) → ChoosesActors m policy → SoundRun p m image (scheduled_run (whole_table m image) p m image policy n).journal
   pub rows : (p : Listing) (m : MachineSpec) (image : Contents) (policy : Policy) (n : ℕ) → ChoosesActors m policy → EachEvent (GoesByRow p m image) (scheduled_run (whole_table m image) p m image policy n).journal
   pub counts : (p : Listing) (m : MachineSpec) (image : Contents) (policy : Policy) (n : ℕ) → ChoosesActors m policy → Holding m (state_after m (scheduled_run (whole_table m image) p m image policy n).journal) (scheduled_run (whole_table m image) p m image policy n).entries (scheduled_run (whole_table m image) p m image policy n).claims
   pub free : (m : MachineSpec) (s : State) (entries : List Claims) (claims : List (List LaneClaim)) (p : PeiLook) → In p s.peis → is_past_issue p ≡ false → claim_at claims p.id.core.0 p.lane.0 ≡ Held (entry_of m p.block) (mode_of p.op) → Holding m s entries claims → entry_is_taken m s p ≡ false
+  pub enters : (m : MachineSpec) (s : State) (entries : List Claims) (claims : List (List LaneClaim)) (a : Actor) (kind : EventKind) (l : PeiLook) (at : ℕ) (k : Mode) → Holding m s entries claims → look_in s a.core a.lane ≡ Some l → l.phase ≡ phase.Issued → claim_at claims a.core.0 a.lane.0 ≡ Held at k → EntersFree m s a kind
 
 -- What is left of a legal journal is the state's: the next event of an actor meets all clauses, and a journal that goes
 -- by rows is legal, where each event meets the guard, recency and seal.

@@ -3,57 +3,68 @@
 ghost use Rattle.history_laws.specs.Fenced.{FencesNeedTheirCore};
 ghost use Rattle.history_laws.specs.Laws.{StatesAgree, AgreementTells, SoundGrows, FittingMeets, RunsGoOn, PlainRunsAreLegal, JournalsAreSound, NextEventsMeet, WholeRunsAreLegal, RestIsState};
 
-/// State and history agree.
+/// The state after a journal and the journal's own history name the same PEIs on their way, in the same phases, and the
+/// same issues and fences.
 pub fn states_agree()
     ensures { StatesAgree }
 {}
 
-/// What follows from that.
+/// So races, the oldest PEI of a core, active PEIs, drained cores and fences that may end can be told from the state
+/// alone, with no look at the journal.
 pub fn agreement_tells()
     ensures { AgreementTells }
 {}
 
-/// Sound journals grow.
+/// A journal stays sound, with PEIs active in the order of their issue, without conflict, and fences that settle, by
+/// each event that enters its PEI in turn and alone, and keeps its core's fence.
 pub fn sound_journals_grow()
     ensures { SoundGrows }
 {}
 
-/// An event that fits its actor meets the clauses on the flat machine.
+/// On a sound journal an event that has what the flat machine sees of its actor's row meets the clauses on the flat
+/// machine: replies, calls, order, exclusion, fences and races.
 pub fn fitting_events_meet()
     ensures { FittingMeets }
 {}
 
-/// Runs of programs go on.
+/// A core whose fence is on goes on asking for it, whatever its lanes and the other cores do; so the run of a program
+/// goes on by each event that fits.
 pub fn runs_go_on()
     ensures { RunsGoOn }
 {}
 
-/// Runs of the plain machine are legal.
+/// Every scheduled run of the plain machine, which has one memory and no caches, is legal on the flat machine, by each
+/// built-in policy.
 pub fn plain_runs_are_legal()
     ensures { PlainRunsAreLegal }
 {}
 
-/// Legal journals are sound.
+/// A legal journal is that of a sound run, and one of the machine below the cores is sound where no core issues while
+/// its fence is on.
 pub fn legal_journals_are_sound()
     ensures { JournalsAreSound }
 {}
 
-/// The next event of an actor meets the clauses on the flat machine.
+/// On the whole machine the next row of an actor meets the clauses on the flat machine, for any call that its core may
+/// have made, and leaves the journal sound.
 pub fn next_events_meet()
     ensures { NextEventsMeet }
 {}
 
-/// Runs of the whole machine are legal on the flat machine.
+/// Every scheduled run of the whole machine goes by rows and is legal on the flat machine, turn by turn, and its directory
+/// counts who holds what, so that a PEI that holds its entry may enter.
 pub fn whole_runs_are_legal()
     ensures { WholeRunsAreLegal }
 {}
 
-/// What is left to be shown of a legal journal is the state's.
+/// What the laws of the state have to add, for a journal that goes by rows to be legal, is its guard, the order of
+/// evictions and seals.
 pub fn rest_is_state()
     ensures { RestIsState }
 {}
 
-/// The machine alone lets a core issue behind its own open fence, and then its loads are out of order.
+/// The machine below the cores would let a core issue behind its own open fence, and then a later load of it is out of
+/// order: so a call below the cores must be the fence while the core's fence is on.
 pub fn fences_need_their_core()
     ensures { FencesNeedTheirCore }
 {}
