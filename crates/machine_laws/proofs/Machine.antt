@@ -1,0 +1,90 @@
+-- The machine below the cores: one more event, by the laws of histories and those of coherence.
+use Rattle.std.proofs.Common.{Bool, true, false, not, refl, ◌∙◌, ◌≡◌, ℕ, zero, suc, ◌<◌, List, [], ◌∷◌, ◌++◌, IsTrue, Some, sym, subst, arith}
+use Rattle.std.proofs.lemmas.Bool.{and_parts}
+use Rattle.pei_types.specs.declared.identifiers.Actor.{Actor}
+use Rattle.pei_types.specs.declared.calls.Call.TheVariants as call
+use Rattle.pei_types.specs.declared.inflight_looks.PeiLook.{PeiLook}
+use Rattle.pei_types.specs.declared.events.Event.{Event}
+use Rattle.pei_types.specs.declared.events.EventKind.{EventKind}
+use Rattle.pei_types.specs.declared.events.EventKind.TheVariants as event
+use Rattle.pei_types.specs.declared.machines.MachineSpec.{MachineSpec}
+use Rattle.pei_types.specs.Calls.{AnswersCall, is_actor_of}
+use Rattle.pei_types.specs.Coherence.{State, state_after, look_in, first_unentered, entry_is_taken}
+use Rattle.pei_types.specs.Core.{CoreNext, Calls}
+use Rattle.pei_types.specs.Guard.{guard, pei_guard, is_pei}
+use Rattle.pei_types.specs.Legal.{MeetsAll}
+use Rattle.pei_types.specs.Next.{Makes}
+use Rattle.pei_types.specs.Program.{Contents}
+use Rattle.pei_types.specs.Turns.{IsNextOf, is_entering, lane_turn}
+use Rattle.pei_types.proofs.Pushes.{state_after-push}
+use Rattle.history_laws.specs.Fits.{AsksForFence, EntersFree}
+use Rattle.history_laws.specs.Laws.{AgreementTells, NextEventsMeet, RestIsState}
+use Rattle.history_laws.specs.Sound.{MeetsState}
+use Rattle.coherence_laws.specs.Invariants.{Invariants}
+use Rattle.coherence_laws.specs.Laws.{IsAllowed, KeepsInvariants, LanesHoldPeis, RowsAreAllowed, TurnsAreAllowed}
+use Rattle.machine_laws.specs.Standing.{MachineInOrder}
+
+-- a PEI that enters finds its entry free, as a row's condition asks it
+free_at_enter : (m : MachineSpec) (s : State) (a : Actor) (kind : EventKind) → EntersFree m s a kind → (p : PeiLook) → look_in s a.core a.lane ≡ Some p → IsTrue (is_entering kind) → entry_is_taken m s p ≡ false
+free_at_enter m s a (event.Enter seq) free p here entering = free p here
+free_at_enter m s a _ free p here entering = absurd (cc entering)
+
+-- the next row meets the clauses on the state
+pub next_meets_state : RowsAreAllowed → TurnsAreAllowed → (x : CoreNext) (m : MachineSpec) (image : Contents) (journal : List Event) (a : Actor) (kind : EventKind) → Invariants m (state_after m journal) → IsTrue (is_actor_of m a) → EntersFree m (state_after m journal) a kind → IsNextOf x m image journal a kind → MeetsState m journal (record { actor = a; kind = kind })
+next_meets_state rows turns x m image journal a kind h own free next =
+    let allowed : IsAllowed m (state_after m journal) a kind = turns.allowed x m image journal a (is_entering kind) kind h (free_at_enter m (state_after m journal) a kind free) next.1
+    in record {
+      guarded = allowed.guarded;
+      recency = allowed.recency;
+      seal = rows.seals_after m (state_after m journal) a kind h own allowed.guarded;
+    }
+
+-- and all clauses
+pub next_meets_all : RestIsState → RowsAreAllowed → TurnsAreAllowed → (x : CoreNext) (m : MachineSpec) (image : Contents) (journal : List Event) (e : Event) → MachineInOrder m journal → IsTrue (is_actor_of m e.actor) → EntersFree m (state_after m journal) e.actor e.kind → IsNextOf x m image journal e.actor e.kind → MeetsAll x m image journal e
+next_meets_all rest rows turns x m image journal e h own free next =
+    rest.all x m image journal e.actor e.kind h.sound own free next (next_meets_state rows turns x m image journal e.actor e.kind h.invariants own free next)
+
+-- the invariants of the state after it
+pub next_has_invariants : KeepsInvariants → (x : CoreNext) (m : MachineSpec) (image : Contents) (journal : List Event) (e : Event) → Invariants m (state_after m journal) → IsTrue (is_actor_of m e.actor) → MeetsAll x m image journal e → Invariants m (state_after m (journal ++ e ∷ []))
+next_has_invariants keeps x m image journal e h own meets =
+    subst (Invariants m) (sym (state_after-push m journal e)) (keeps.next m (state_after m journal) e.actor e.kind h own meets.guarded)
+
+-- so the machine stays in order
+pub next_in_order : NextEventsMeet → RestIsState → KeepsInvariants → RowsAreAllowed → TurnsAreAllowed → (x : CoreNext) (m : MachineSpec) (image : Contents) (journal : List Event) (e : Event) → MachineInOrder m journal → IsTrue (is_actor_of m e.actor) → EntersFree m (state_after m journal) e.actor e.kind → AsksForFence x journal e.actor.core → IsNextOf x m image journal e.actor e.kind → MachineInOrder m (journal ++ e ∷ [])
+next_in_order events rest keeps rows turns x m image journal e h own free asks next =
+    record {
+      sound = events.sound x m image journal e.actor e.kind h.sound own free asks next;
+      invariants = next_has_invariants keeps x m image journal e h.invariants own (next_meets_all rest rows turns x m image journal e h own free next);
+    }
+
+-- what a lane does next is the same whatever its core does
+lane_alone : (l : ℕ) (x y : CoreNext) (m : MachineSpec) (image : Contents) (journal : List Event) (a : Actor) (kind : EventKind) → 0 < l → lane_turn l x m image journal a (is_entering kind) ≡ Some (Makes kind) → lane_turn l y m image journal a (is_entering kind) ≡ Some (Makes kind)
+lane_alone zero x y m image journal a kind lane turn = absurd (omega (arith, lane))
+lane_alone (suc l) x y m image journal a kind lane turn = turn
+
+pub next_of_lane : (x y : CoreNext) (m : MachineSpec) (image : Contents) (journal : List Event) (a : Actor) (kind : EventKind) → 0 < a.lane.0 → IsNextOf x m image journal a kind → IsNextOf y m image journal a kind
+next_of_lane x y m image journal a kind lane next = (next.0, lane_alone a.lane.0 x y m image journal a kind lane next.1)
+
+-- after a lane's event too, as if its core asked for its fence
+pub lane_in_order : NextEventsMeet → RestIsState → KeepsInvariants → RowsAreAllowed → TurnsAreAllowed → (x : CoreNext) (m : MachineSpec) (image : Contents) (journal : List Event) (e : Event) → MachineInOrder m journal → IsTrue (is_actor_of m e.actor) → EntersFree m (state_after m journal) e.actor e.kind → 0 < e.actor.lane.0 → IsNextOf x m image journal e.actor e.kind → MachineInOrder m (journal ++ e ∷ [])
+lane_in_order events rest keeps rows turns x m image journal e h own free lane next =
+    next_in_order events rest keeps rows turns (Calls call.Fence) m image journal e h own free (λ on. refl) (next_of_lane x (Calls call.Fence) m image journal e.actor e.kind lane next)
+
+-- ---- an event that meets the clauses is a row
+
+same_some : (p q : PeiLook) → Some p ≡ Some q → p ≡ q
+same_some p q h = search
+
+pub enters_free : AgreementTells → LanesHoldPeis → (m : MachineSpec) (journal : List Event) (a : Actor) (kind : EventKind) (x : CoreNext) → MachineInOrder m journal → AnswersCall x m journal a kind → IsTrue (guard m (state_after m journal) a kind) → EntersFree m (state_after m journal) a kind
+enters_free tells lanes m journal a (event.Enter seq) x h calls ok =
+    let s : State = state_after m journal
+    in let f = tells.follows m s journal h.sound.agrees a (event.Enter seq) seq calls.1.1
+    in let here : look_in s a.core a.lane ≡ Some f.0 = lanes.placed m s a seq f.0 h.invariants f.1 f.2
+    in let allowed : pei_guard m s (event.Enter seq) (Some f.0) ≡ true = subst (λ o. pei_guard m s (event.Enter seq) o ≡ true) f.1 ok
+    in let free : not (entry_is_taken m s f.0) ≡ true = (and_parts (is_pei (first_unentered s f.0.id.core) f.0.id) (not (entry_is_taken m s f.0)) allowed).1
+    in λ l there. subst (λ q. entry_is_taken m s q ≡ false) (same_some f.0 l (sym here ∙ there)) (is_false (entry_is_taken m s f.0) free)
+  where
+    is_false : (b : Bool) → not b ≡ true → b ≡ false
+    is_false true e = absurd (cc e)
+    is_false false e = refl
+enters_free tells lanes m journal a _ x h calls ok = tt

@@ -1,0 +1,3 @@
+pub mod Standing
+pub mod Memory
+pub mod Laws
