@@ -1,0 +1,9 @@
+pub mod Nodes
+pub mod Followers
+pub mod Changing
+pub mod Formed
+pub mod Arrays
+pub mod Linking
+pub mod Steps
+pub mod Ties
+pub mod Orders

@@ -1,0 +1,4 @@
+pub mod Linked
+pub mod Walks
+pub mod Laws
+pub mod Examples
