@@ -1,0 +1,8 @@
+pub mod Digits
+pub mod JobWords
+pub mod Entries
+pub mod ReportLines
+pub mod Statuses
+pub mod WritingOn
+pub mod Served
+pub mod WholeCommand

@@ -1,0 +1,66 @@
+-- One more piece of a text that is being written.
+use Rattle.std.proofs.Common.{◌≡◌, ℕ, suc, ◌+◌, ◌<◌, List, [], ◌∷◌, ◌++◌, length, codes, take, drop, get_or, flat_map, Option, Result, Ok, Err, IsErr, Bor, refl, sym, ◌∙◌, ap, subst, arith}
+use Rattle.std.proofs.lemmas.List.{append_assoc, take-append-drop}
+use Rattle.std.proofs.lemmas.Grind.{flat_map-append}
+use Rattle.std.proofs.Math.Seq.{drop-cons}
+use Rattle.pei_io.specs.declared.files.Failed.{Failed}
+use Rattle.pei_io.specs.Outside.{Writes}
+use Rattle.pei_io.specs.Laws.{WritesJoin}
+use Rattle.pei_types.specs.Texts.{line}
+use Rattle.pei_cli.specs.Writing.{FrontWritten}
+
+regrouped : (front line behind rest text : List ℕ) → line ++ behind ≡ rest → front ++ rest ≡ text → (front ++ line) ++ behind ≡ text
+regrouped front line behind rest text split whole = append_assoc front line behind ∙ ap (λ xs. front ++ xs) split ∙ whole
+
+-- the piece was written
+pub went_on : WritesJoin → (text rest line behind : List ℕ) (before mid now : Option (List ℕ)) (faults faults_mid faults_now : ℕ) → FrontWritten text rest before mid faults faults_mid → line ++ behind ≡ rest → Writes line mid now faults_mid faults_now (Ok tt) → FrontWritten text behind before now faults faults_now
+went_on laws text rest line behind before mid now faults faults_mid faults_now so_far split written =
+    record {
+      front = so_far.front ++ line;
+      whole = regrouped so_far.front line behind rest text split so_far.whole;
+      written = laws.joins so_far.front line before mid now faults faults_mid faults_now tt (Ok tt) so_far.written written;
+    }
+
+-- its write failed
+pub stopped : WritesJoin → (text rest line behind : List ℕ) (before mid now : Option (List ℕ)) (faults faults_mid faults_now : ℕ) (failed : Failed) → FrontWritten text rest before mid faults faults_mid → line ++ behind ≡ rest → Writes line mid now faults_mid faults_now (Err failed) → Writes text before now faults faults_now (Err failed)
+stopped laws text rest line behind before mid now faults faults_mid faults_now failed so_far split written =
+    let joined = laws.joins so_far.front line before mid now faults faults_mid faults_now tt (Err failed) so_far.written written
+    in subst (λ (t : List ℕ). Writes t before now faults faults_now (Err failed)) (regrouped so_far.front line behind rest text split so_far.whole)
+    (laws.stops (so_far.front ++ line) behind before now faults faults_now failed joined)
+
+-- ---- pieces of a list
+
+abbrev pub joined : List (Bor (List ℕ)) → List ℕ
+joined pieces = flat_map (λ p. p.now) pieces
+
+pub pieces_left : (pieces : List (Bor (List ℕ))) (i : ℕ) (d : Bor (List ℕ)) → i < length pieces → joined (take i pieces) ++ (get_or pieces i d).now ++ joined (drop (i + 1) pieces) ≡ joined pieces
+pieces_left pieces i d within =
+    let p = get_or pieces i d
+    in let rest : drop i pieces ≡ p ∷ drop (i + 1) pieces = drop-cons pieces i d within ∙ ap (λ k. p ∷ drop k pieces) (one_more i)
+    in append_assoc (joined (take i pieces)) p.now (joined (drop (i + 1) pieces))
+    ∙ ap (λ ps. joined (take i pieces) ++ joined ps) (sym rest)
+    ∙ sym (flat_map-append (λ (q : Bor (List ℕ)). q.now) (take i pieces) (drop i pieces))
+    ∙ ap joined (take-append-drop i pieces)
+  where
+    one_more : (n : ℕ) → suc n ≡ n + 1
+    one_more n = omega arith
+
+pub pieces_stopped : WritesJoin → (pieces : List (Bor (List ℕ))) (i : ℕ) (d : Bor (List ℕ)) (before mid now : Option (List ℕ)) (faults faults_mid faults_now : ℕ) (failed : Failed) → i < length pieces → Writes (joined (take i pieces)) before mid faults faults_mid (Ok tt) → Writes (get_or pieces i d).now mid now faults_mid faults_now (Err failed) → Writes (joined pieces) before now faults faults_now (Err failed)
+pieces_stopped laws pieces i d before mid now faults faults_mid faults_now failed within so_far written =
+    let p = get_or pieces i d
+    in stopped laws (joined pieces) (p.now ++ joined (drop (i + 1) pieces)) p.now (joined (drop (i + 1) pieces)) before mid now faults faults_mid faults_now failed
+    (record { front = joined (take i pieces); whole = sym (append_assoc (joined (take i pieces)) p.now (joined (drop (i + 1) pieces))) ∙ pieces_left pieces i d within; written = so_far })
+    refl written
+
+-- how a failure is told does not matter
+pub any_failure : (text : List ℕ) (before now : Option (List ℕ)) (faults faults_now : ℕ) (failed : Failed) (result : Result (Unit {0}) Failed) → IsErr result → Writes text before now faults faults_now (Err failed) → Writes text before now faults faults_now result
+any_failure text before now faults faults_now failed (Ok done) h written = absurd (cc h)
+any_failure text before now faults faults_now failed (Err other) h written = written
+
+-- the line of a bad program, whose place is one word
+pub placed_line : (a b k : List ℕ) → codes "program bad " ++ (a ++ (codes ":" ++ (b ++ (codes " " ++ (k ++ codes "\n"))))) ≡ line (codes "program" ∷ codes "bad" ∷ (a ++ codes ":" ++ b) ∷ k ∷ [])
+placed_line a b k =
+    ap (λ xs. codes "program bad " ++ xs)
+    (sym (append_assoc (a ++ codes ":" ++ b) (codes " " ++ k) (codes "\n")
+    ∙ append_assoc (a ++ codes ":") b (codes " " ++ (k ++ codes "\n"))
+    ∙ append_assoc a (codes ":") (b ++ (codes " " ++ (k ++ codes "\n")))))

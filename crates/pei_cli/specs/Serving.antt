@@ -1,0 +1,90 @@
+-- What a command comes to.
+use Rattle.std.specs.Prelude.{◌≡◌, ⊤, ◌⊎◌, ℕ, ◌≤◌, false, List, [], length, take, Option, IfSome, Result, Ok, Err}
+use Rattle.pei_types.specs.declared.machines.MachineSpec.{MachineSpec}
+use Rattle.pei_types.specs.Ends.{ends_of, status_of}
+use Rattle.pei_types.specs.Image.{IsImageOf}
+use Rattle.pei_types.specs.Legal.{FlatLegal}
+use Rattle.pei_types.specs.Program.{Listing, Contents}
+use Rattle.pei_types.specs.Schedule.{Run}
+use Rattle.pei_types.specs.Texts.{report_text}
+use Rattle.pei_io.specs.Outside.{Rose, Added}
+use Rattle.pei_io.specs.declared.files.Which.TheVariants as which
+use Rattle.pei_asm.specs.declared.faults.AsmKind.TheVariants as kind
+use Rattle.pei_asm.specs.Form.{IsFormOf}
+use Rattle.sched_run.specs.Scheduled.{run_of}
+use Rattle.pei_cli.specs.Jobs.{Job}
+use Rattle.pei_cli.specs.Loading.{IsLoadRefusal}
+use Rattle.pei_cli.specs.Machines.{IsBuiltIn}
+use Rattle.pei_cli.specs.declared.ends.PlainEnd.{PlainEnd}
+use Rattle.pei_cli.specs.declared.ends.PlainEnd.TheVariants as ends
+use Rattle.pei_cli.specs.declared.faults.Fault.{Fault}
+use Rattle.pei_cli.specs.declared.faults.Fault.TheVariants as fault
+
+-- ---- reading the program
+
+-- no program has this text
+abbrev pub IsNoProgram : List ℕ → Type 0
+IsNoProgram text = (p : Listing) → IsFormOf text p → ⊥
+
+-- The text was read: it is what the file holds, where that is told, and as many bytes were taken.
+pub record IsRead (held : Option (List ℕ)) (taken : ℕ) (text : List ℕ) : Type 0 where
+  pub content : IfSome held (λ bytes. text ≡ bytes)
+  pub count : taken ≡ length text
+
+-- The program of the text that was read, or why there is none.
+abbrev pub ReadsProgram : Option (List ℕ) → ℕ → ℕ → ℕ → Result Listing Fault → Type 0
+ReadsProgram held taken faults faults_now (Ok p) = (text : List ℕ) × IsRead held taken text × IsFormOf text p
+ReadsProgram held taken faults faults_now (Err (fault.ProgramBad f)) =
+    (f ≡ record { line = 0; column = 0; kind = kind.NotBuilt }) × IfSome held IsNoProgram
+ReadsProgram held taken faults faults_now (Err (fault.ReadFault w)) = (w ≡ which.Program) × Rose faults faults_now
+ReadsProgram held taken faults faults_now (Err fault.OutOfMemory) = ⊤
+ReadsProgram held taken faults faults_now (Err _) = ⊥
+
+-- ---- running it
+
+-- it has no initial words, no asks and no statistics
+pub record IsBare (p : Listing) : Type 0 where
+  pub lines : p.lines ≡ []
+  pub asks : p.asks ≡ []
+  pub statistics : p.statistics ≡ false
+
+-- the machine of the job, with the program loaded
+pub record Begins (job : Job) (p : Listing) (m : MachineSpec) (image : Contents) : Type 0 where
+  pub machine : IsBuiltIn job.cores m
+  pub loaded : IsImageOf p m image
+
+-- the run of the job
+abbrev pub run_of_job : Job → Listing → MachineSpec → Contents → Run
+run_of_job job p m image = run_of p m image job.policy job.turns
+
+-- The answer is this run's: its status, its journal, how each core ended, and its number of turns.
+abbrev pub IsAnswerOf : MachineSpec → Run → PlainEnd → Type 0
+IsAnswerOf m r (ends.Sched status journal cores turns) =
+    (status ≡ status_of m r.journal) × (journal.events ≡ r.journal) × (cores ≡ ends_of r.journal) × (turns ≡ r.turns)
+
+-- The report of the run was written: the whole, or a front of it.
+abbrev pub Reports : Listing → MachineSpec → Contents → Run → Option (List ℕ) → Option (List ℕ) → Type 0
+Reports p m image r before now = Added (report_text p m image r.journal) before now
+
+abbrev pub ReportsFront : Listing → MachineSpec → Contents → Run → Option (List ℕ) → Option (List ℕ) → Type 0
+ReportsFront p m image r before now = (n : ℕ) × (n ≤ length (report_text p m image r.journal)) × Added (take n (report_text p m image r.journal)) before now
+
+-- The run of a program and its report, or why there is none. Before a fault other than that of writing, nothing was written.
+abbrev pub RunsJob : Job → Listing → Option (List ℕ) → Option (List ℕ) → ℕ → ℕ → Result PlainEnd Fault → Type 0
+RunsJob job p before now faults faults_now (Ok end) =
+    (m : MachineSpec) × (image : Contents) × Begins job p m image × IsAnswerOf m (run_of_job job p m image) end
+    × FlatLegal p m image (run_of_job job p m image).journal × Reports p m image (run_of_job job p m image) before now
+RunsJob job p before now faults faults_now (Err fault.WriteFault) =
+    (m : MachineSpec) × (image : Contents) × Begins job p m image × ReportsFront p m image (run_of_job job p m image) before now × Rose faults faults_now
+RunsJob job p before now faults faults_now (Err (fault.LoadBad f)) =
+    (m : MachineSpec) × IsBuiltIn job.cores m × IsLoadRefusal p m f × (now ≡ before)
+RunsJob job p before now faults faults_now (Err fault.OutOfMemory) = now ≡ before
+RunsJob job p before now faults faults_now (Err _) = ⊥
+
+-- ---- the whole command
+
+-- The program was not read, and nothing was written; or it was, and this is its run.
+abbrev pub Serves : Job → Option (List ℕ) → ℕ → ℕ → ℕ → Option (List ℕ) → Option (List ℕ) → ℕ → ℕ → Result PlainEnd Fault → Type 0
+Serves job held taken faults faults_now before now sink_faults sink_faults_now result =
+    ((f : Fault) × (result ≡ Err f) × ReadsProgram held taken faults faults_now (Err f) × (now ≡ before))
+    ⊎ ((p : Listing) × ReadsProgram held taken faults faults_now (Ok p) × RunsJob job p before now sink_faults sink_faults_now result)

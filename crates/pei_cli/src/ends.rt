@@ -1,0 +1,18 @@
+//! What the top calls answer.
+
+use journal::Journal;
+use pei_types::EndKind;
+
+/// What a command came to.
+#[derive(Drop)]
+pub enum PlainEnd {
+    /// A scheduled run: the status, its journal, how each core ended, if it did, and the number of turns. The status is
+    /// 0 where every core halted, 5 where every core has ended and some did not halt, 6 where the journal is full and
+    /// some core has not ended, and 7 where the turns are spent and some core has not ended.
+    Sched {
+        status: u8,
+        journal: Journal,
+        cores: [Option<EndKind>; 8],
+        turns: u64,
+    },
+}

@@ -1,0 +1,117 @@
+//! Why a command was refused.
+
+ghost use Rattle.std.specs.Prelude.{◌≡◌};
+ghost use Rattle.pei_io.specs.Outside.{Writes};
+ghost use Rattle.pei_cli.specs.FaultLines.{status_of_fault, fault_line, asm_word, which_word};
+
+use crate::loading::LoadFault;
+use crate::writing::write_pieces;
+use itoa::Buffer;
+use pei_asm::{AsmFault, AsmKind};
+use pei_io::{Failed, Sink, Which};
+
+/// Why a command was refused.
+#[derive(Clone, Copy, PartialEq, Eq, Debug)]
+pub enum Fault {
+    /// The words name no command.
+    Usage,
+    /// The program's text is refused, and where.
+    ProgramBad(AsmFault),
+    /// The program can't be loaded.
+    LoadBad(LoadFault),
+    /// A file could not be opened or read.
+    ReadFault { which: Which },
+    /// The output could not be written; a front of it was.
+    WriteFault,
+    /// Memory ran out. This says nothing of the inputs.
+    OutOfMemory,
+}
+
+/// The status with which the program ends at a fault.
+pub fn status_of(fault: &Fault) -> u8
+    ensures { result ≡ status_of_fault fault.now }
+{
+    match fault {
+        Fault::Usage => 2,
+        Fault::ProgramBad(_) | Fault::LoadBad(_) => 3,
+        Fault::ReadFault { .. } => 8,
+        Fault::WriteFault => 9,
+        Fault::OutOfMemory => 10,
+    }
+}
+
+/// Writes the line of a fault. After a failure a front of it was written.
+pub fn write_fault<K: Sink>(fault: &Fault, sink: &mut K) -> Result<(), Failed>
+    ensures { Writes (fault_line fault.now) (K.written sink.old) (K.written sink.new) (K.faults sink.old) (K.faults sink.new) result }
+{
+    match fault {
+        Fault::Usage => write_pieces(
+            sink,
+            &[b"usage: peisim asm or sched or run or check or gen\n"],
+        ),
+        Fault::ProgramBad(fault) => write_program_bad(fault, sink),
+        Fault::LoadBad(fault) => write_load_bad(fault, sink),
+        Fault::ReadFault { which } => {
+            write_pieces(sink, &[b"read fault ", which_word(*which), b"\n"])
+        }
+        Fault::WriteFault => write_pieces(sink, &[b"write fault\n"]),
+        Fault::OutOfMemory => write_pieces(sink, &[b"out of memory\n"]),
+    }
+}
+
+/// Writes the line of a fault of a program's text.
+fn write_program_bad<K: Sink>(fault: &AsmFault, sink: &mut K) -> Result<(), Failed>
+    ensures { Writes (fault_line (Fault.ProgramBad fault.now)) (K.written sink.old) (K.written sink.new) (K.faults sink.old) (K.faults sink.new) result }
+{
+    let mut line = Buffer::new();
+    let mut column = Buffer::new();
+    write_pieces(
+        sink,
+        &[
+            b"program bad ",
+            line.format(fault.line).as_bytes(),
+            b":",
+            column.format(fault.column).as_bytes(),
+            b" ",
+            asm_word(fault.kind),
+            b"\n",
+        ],
+    )
+}
+
+/// The word for what is wrong with a program's text.
+fn asm_word(kind: AsmKind) -> &'static [u8]
+    ensures { result.now ≡ asm_word kind }
+{
+    match kind {
+        AsmKind::NotBuilt => b"NotBuilt",
+        AsmKind::OutOfMemory => b"OutOfMemory",
+    }
+}
+
+/// Writes the line of a fault of loading.
+fn write_load_bad<K: Sink>(fault: &LoadFault, sink: &mut K) -> Result<(), Failed>
+    ensures { Writes (fault_line (Fault.LoadBad fault.now)) (K.written sink.old) (K.written sink.new) (K.faults sink.old) (K.faults sink.new) result }
+{
+    match fault {
+        LoadFault::NoEntry { core } => {
+            let mut buffer = Buffer::new();
+            write_pieces(
+                sink,
+                &[b"load bad NoEntry ", buffer.format(*core).as_bytes(), b"\n"],
+            )
+        }
+        LoadFault::OutOfMemory => write_pieces(sink, &[b"load bad OutOfMemory\n"]),
+    }
+}
+
+/// The word for one of a command's files.
+fn which_word(which: Which) -> &'static [u8]
+    ensures { result.now ≡ which_word which }
+{
+    match which {
+        Which::Program => b"program",
+        Which::Machine => b"machine",
+        Which::Trace => b"trace",
+    }
+}

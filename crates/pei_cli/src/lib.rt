@@ -1,0 +1,17 @@
+//! The top calls of peisim: what a command answers and writes.
+#![tactic(auto)]
+
+mod ends;
+mod faults;
+mod loading;
+mod machines;
+mod report;
+mod serving;
+mod status;
+mod words;
+mod writing;
+
+pub use ends::PlainEnd;
+pub use faults::{Fault, status_of, write_fault};
+pub use loading::LoadFault;
+pub use serving::plain;

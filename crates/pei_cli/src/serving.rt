@@ -1,0 +1,132 @@
+//! The top call for commands without threads.
+
+ghost use Rattle.std.specs.Prelude.{◌≡◌, ◌≢◌, ◌≤◌, ◌↔◌, ℕ, List, None, Some, Err, IfSome, IfOk};
+ghost use Rattle.pei_io.specs.Outside.{LeavesOthers};
+ghost use Rattle.pei_io.specs.declared.files.Which.{Which};
+ghost use Rattle.sched_run.specs.Choosing.{HasActorsOf};
+ghost use Rattle.pei_types.specs.declared.machines.MachineSpec.{MachineSpec};
+ghost use Rattle.pei_cli.specs.Jobs.{job_of};
+ghost use Rattle.pei_cli.specs.Serving.{IsBare, ReadsProgram, RunsJob, Serves};
+
+use crate::ends::PlainEnd;
+use crate::faults::Fault;
+use crate::loading::{LoadFault, load};
+use crate::machines::built_in;
+use crate::report::report;
+use crate::status::run_status;
+use crate::words::{Job, asked};
+use crate::writing::write_lines;
+use pei_asm::{AsmFault, AsmKind, assemble};
+use pei_io::{Failed, Files, ReadEnd, Sink, Text, Which, read_limited};
+use pei_types::Program;
+use sched_run::run_schedule;
+use std::alloc::Global;
+
+/// The most bytes of a program's file.
+const MOST_BYTES: u32 = 4096;
+
+/// Serves the words `sched PROGRAM MACHINE SEED TURNS`: it reads the program, runs it by the schedule on the plain
+/// machine, and writes the report to the sink.
+///
+/// PROGRAM is a file's name. MACHINE is `-1` to `-8`, the built-in machine of that many cores. SEED is `rr`, `serial` or
+/// a decimal number below 2^64, and TURNS a decimal number of at most 1,000,000,000. Other words are `Usage`.
+///
+/// The condition is that no file was opened before. Nothing is written before a fault other than `WriteFault`, and
+/// before that one a front of the report. `OutOfMemory` may come in the place of any answer but `Usage`.
+pub fn plain<F: Files, K: Sink>(
+    alloc: Global,
+    words: &[Text],
+    files: &mut F,
+    sink: &mut K,
+) -> Result<PlainEnd, Fault>
+    requires { (which : Which) → F.name files.old which ≡ None }
+    ensures usage { (result ≡ Err Fault.Usage) ↔ (job_of words.now ≡ None) }
+    ensures idle { job_of words.now ≡ None → (files.new ≡ files.old) × (sink.new ≡ sink.old) }
+    ensures serves { IfSome (job_of words.now) (λ job. Serves job (F.held files.old Which.Program job.program) (F.taken files.new Which.Program) (F.faults files.old Which.Program) (F.faults files.new Which.Program) (K.written sink.old) (K.written sink.new) (K.faults sink.old) (K.faults sink.new) result) }
+    ensures named { IfSome (job_of words.now) (λ job. result ≢ Err Fault.OutOfMemory → F.name files.new Which.Program ≡ Some job.program) }
+    ensures rising { (F.faults files.old Which.Program ≤ F.faults files.new Which.Program) × (K.faults sink.old ≤ K.faults sink.new) }
+    ensures others { LeavesOthers F.held F.left F.name F.taken F.faults Which.Program files.old files.new }
+{
+    let Some(job) = asked(words) else {
+        return Err(Fault::Usage);
+    };
+    let program = read_program(alloc, files, words[1].as_str())?;
+    run_job(alloc, &program, &job, sink)
+}
+
+/// Reads the program of a file of this name.
+fn read_program<F: Files>(alloc: Global, files: &mut F, name: &str) -> Result<Program, Fault>
+    requires { F.name files.old Which.Program ≡ None }
+    ensures reads { ReadsProgram (F.held files.old Which.Program name.now) (F.taken files.new Which.Program) (F.faults files.old Which.Program) (F.faults files.new Which.Program) result }
+    ensures bare { IfOk result IsBare }
+    ensures named { result ≢ Err Fault.OutOfMemory → F.name files.new Which.Program ≡ Some name.now }
+    ensures rising { F.faults files.old Which.Program ≤ F.faults files.new Which.Program }
+    ensures others { LeavesOthers F.held F.left F.name F.taken F.faults Which.Program files.old files.new }
+{
+    let bytes = match read_limited(alloc, files, Which::Program, name, MOST_BYTES) {
+        Ok(bytes) => bytes,
+        Err(ReadEnd::Failed) => {
+            return Err(Fault::ReadFault {
+                which: Which::Program,
+            });
+        }
+        Err(ReadEnd::TooLong) => return Err(Fault::ProgramBad(not_built())),
+        Err(ReadEnd::OutOfMemory) => return Err(Fault::OutOfMemory),
+    };
+    match assemble(alloc, bytes.as_slice()) {
+        Ok(program) => Ok(program),
+        Err(fault) => match fault.kind {
+            AsmKind::OutOfMemory => Err(Fault::OutOfMemory),
+            AsmKind::NotBuilt => Err(Fault::ProgramBad(fault)),
+        },
+    }
+}
+
+/// The fault of a text that no program has.
+fn not_built() -> AsmFault
+    ensures { result ≡ record { line = 0; column = 0; kind = AsmKind.NotBuilt } }
+{
+    AsmFault {
+        line: 0,
+        column: 0,
+        kind: AsmKind::NotBuilt,
+    }
+}
+
+/// Runs a program as the words ask, and writes the report.
+fn run_job<K: Sink>(
+    alloc: Global,
+    program: &Program,
+    job: &Job,
+    sink: &mut K,
+) -> Result<PlainEnd, Fault>
+    requires bare { IsBare program.now }
+    requires cores { (1 ≤ job.now.cores) × (job.now.cores ≤ 8) }
+    requires actors { (m : MachineSpec) → HasActorsOf m job.now.policy }
+    ensures runs { (name : List ℕ) → RunsJob (record { program = name; cores = job.now.cores; policy = job.now.policy; turns = job.now.turns }) program.now (K.written sink.old) (K.written sink.new) (K.faults sink.old) (K.faults sink.new) result }
+    ensures rising { K.faults sink.old ≤ K.faults sink.new }
+{
+    let machine = built_in(job.cores);
+    let image = match load(alloc, program, &machine) {
+        Ok(image) => image,
+        Err(LoadFault::OutOfMemory) => return Err(Fault::OutOfMemory),
+        Err(fault) => return Err(Fault::LoadBad(fault)),
+    };
+    let Ok(end) = run_schedule(alloc, program, &machine, &image, &job.policy, job.turns) else {
+        return Err(Fault::OutOfMemory);
+    };
+    let journal = end.fabric.into_journal();
+    let status = run_status(&machine, &journal, &end.cores);
+    let Ok(text) = report(alloc, &journal, &machine, &end.cores, status) else {
+        return Err(Fault::OutOfMemory);
+    };
+    match write_lines(sink, text.as_slice()) {
+        Ok(()) => Ok(PlainEnd::Sched {
+            status,
+            journal,
+            cores: end.cores,
+            turns: end.turns,
+        }),
+        Err(Failed) => Err(Fault::WriteFault),
+    }
+}

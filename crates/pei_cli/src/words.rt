@@ -1,0 +1,97 @@
+//! What the words of a command ask for.
+
+ghost use Rattle.std.specs.Prelude.{◌≡◌, ◌+◌, ◌<◌, ◌≤◌, [], Some, None, length, position, get_or, IfSome, option_map};
+ghost use Rattle.std.specs.Str.{bytes_eq};
+ghost use Rattle.pei_types.specs.declared.machines.MachineSpec.{MachineSpec};
+ghost use Rattle.sched_run.specs.Choosing.{HasActorsOf};
+ghost use Rattle.pei_cli.specs.Commands.{built_in_words, decimal_below, schedule_word};
+ghost use Rattle.pei_cli.specs.Jobs.{job_of, policy_of_word};
+
+use pei_io::Text;
+use sched_run::Policy;
+
+/// The most turns that words can ask for.
+const MOST_TURNS: u64 = 1_000_000_000;
+
+/// A scheduled run with its report, on a built-in machine. Its program is the second word.
+#[derive(Drop)]
+pub(crate) struct Job {
+    pub cores: u8,
+    pub policy: Policy,
+    pub turns: u64,
+}
+
+/// What the words ask for, if it is built.
+pub(crate) fn asked(words: &[Text]) -> Option<Job>
+    ensures some { IfSome result (λ j. job_of words.now ≡ Some (record { program = get_or words.now 1 []; cores = j.cores; policy = j.policy; turns = j.turns })) }
+    ensures within { IfSome result (λ j. (1 < length words.now) × (1 ≤ j.cores) × (j.cores ≤ 8)) }
+    ensures actors { IfSome result (λ j. (m : MachineSpec) → HasActorsOf m j.policy) }
+    ensures none { result ≡ None → job_of words.now ≡ None }
+{
+    let [verb, _, machine, seed, turns] = words else {
+        return None;
+    };
+    if verb.as_str() != "sched" {
+        return None;
+    }
+    let cores = built_in_cores(machine.as_str())?;
+    let turns = decimal_up_to(turns.as_str(), MOST_TURNS)?;
+    let policy = policy(seed.as_str())?;
+    Some(Job {
+        cores,
+        policy,
+        turns,
+    })
+}
+
+/// The number of cores of the built-in machine that a word names.
+fn built_in_cores(word: &str) -> Option<u8>
+    ensures { result ≡ option_map (λ i. i + 1) (position (bytes_eq word.now) built_in_words) }
+{
+    match word {
+        "-1" => Some(1),
+        "-2" => Some(2),
+        "-3" => Some(3),
+        "-4" => Some(4),
+        "-5" => Some(5),
+        "-6" => Some(6),
+        "-7" => Some(7),
+        "-8" => Some(8),
+        _ => None,
+    }
+}
+
+/// Who takes the turns, by a word.
+fn policy(word: &str) -> Option<Policy>
+    ensures { result ≡ option_map policy_of_word (schedule_word word.now) }
+{
+    if word == "rr" {
+        Some(Policy::RoundRobin)
+    } else if word == "serial" {
+        Some(Policy::Serial)
+    } else {
+        Some(Policy::Seeded(decimal_up_to(word, u64::MAX)?))
+    }
+}
+
+/// The number that decimal digits write, where it is at most `most`.
+fn decimal_up_to(word: &str, most: u64) -> Option<u64>
+    ensures { result ≡ decimal_below (most + 1) word.now }
+{
+    if word.is_empty() {
+        return None;
+    }
+    let mut value = 0u64;
+    let mut rest = word.as_bytes();
+    while let [digit @ b'0'..=b'9', behind @ ..] = rest {
+        value = value
+            .checked_mul(10)?
+            .checked_add(u64::from(*digit - b'0'))?;
+        rest = behind;
+    }
+    if rest.is_empty() && value <= most {
+        Some(value)
+    } else {
+        None
+    }
+}
