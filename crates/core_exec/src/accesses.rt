@@ -5,7 +5,7 @@ ghost use Rattle.pei_types.specs.Blocks.{word_of};
 ghost use Rattle.pei_types.specs.Core.{Asks, asks_unless, operand_trap, pei_call};
 ghost use Rattle.core_exec.specs.Effect.{is_on_whole_block, shift_of};
 
-use crate::traps::operand_fits;
+use pei_ops::operand_fits;
 use pei_types::{Call, EndKind, Op, Operands, TrapCause, block_of};
 
 /// The end of the core by a trap of the instruction at `pc`.

@@ -11,7 +11,6 @@ mod cores;
 mod effects;
 mod next;
 mod states;
-mod traps;
 mod waits;
 
 pub use cores::Core;
