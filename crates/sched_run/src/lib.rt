@@ -7,6 +7,8 @@ mod plain;
 mod policies;
 mod running;
 mod schedule;
+#[cfg(test)]
+mod tests;
 mod turns;
 
 pub use plain::Plain;
