@@ -5,10 +5,7 @@ use Rattle.std.specs.Char.{is_ascii_digit, digit_value}
 use Rattle.std.proofs.lemmas.Bool.Decides.{nat_tests}
 use Rattle.pei_cli.specs.Commands.{number_if, value_of_digits, decimal_below}
 
--- the number of the digits that are left, behind those that write this value
-pub on_from : ℕ → ℕ → ℕ
-on_from value digit = value * 10 + digit_value digit
-
+-- the number that these digits write behind those of a value
 abbrev pub value_from : ℕ → List ℕ → ℕ
 value_from value rest = fold (λ n d. n * 10 + digit_value d) value rest
 

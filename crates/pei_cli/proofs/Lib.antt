@@ -1,8 +1,8 @@
 pub mod Digits
-pub mod JobWords
+pub mod AskedWords
 pub mod Entries
 pub mod ReportLines
 pub mod Statuses
 pub mod WritingOn
 pub mod Served
-pub mod WholeCommand
+pub mod NoProgram

@@ -1,8 +1,8 @@
 -- What the words ask for, of what is built so far.
-use Rattle.std.specs.Prelude.{ℕ, List, Option, Some, None, option_and_then}
+use Rattle.std.specs.Prelude.{ℕ, List, Option, Some, None, option_and_then, if◌then◌else◌}
 use Rattle.sched_run.specs.declared.policies.Policy.{Policy}
 use Rattle.sched_run.specs.declared.policies.Policy.TheVariants as policy
-use Rattle.pei_cli.specs.Commands.{Command, Sched, BuiltIn, ScheduleWord, InTurn, Serial, Seeded, Report, plain_command_of}
+use Rattle.pei_cli.specs.Commands.{Command, Sched, Gen, BuiltIn, ScheduleWord, InTurn, Serial, Seeded, Report, is_run, plain_command_of}
 
 -- A scheduled run with its report: the name of the program's file, the cores of the built-in machine, who takes the
 -- turns, and how many at most.
@@ -17,12 +17,21 @@ policy_of_word InTurn = policy.RoundRobin
 policy_of_word Serial = policy.Serial
 policy_of_word (Seeded seed) = policy.Seeded seed
 
--- of the commands, a scheduled run on a built-in machine, with its report, is built
-abbrev pub built : Command → Option Job
+-- what words can ask for
+pub data Asked : Type 0 where
+  Runs : Job → Asked
+  Generates : (n : ℕ) → Asked
+
+-- of the commands, a scheduled run on a built-in machine, with its report, and the generated program are built
+abbrev pub built : Command → Option Asked
 built (Sched program (BuiltIn cores) schedule turns Report) =
-    Some (record { program = program; cores = cores; policy = policy_of_word schedule; turns = turns })
+    Some (Runs (record { program = program; cores = cores; policy = policy_of_word schedule; turns = turns }))
+built (Gen n) = Some (Generates n)
 built _ = None
 
--- what the words ask for, if it is built
-abbrev pub job_of : List (List ℕ) → Option Job
-job_of words = option_and_then built (plain_command_of words)
+-- what a command asks for, and what the words do, if it is built
+abbrev pub asked_by : Option Command → Option Asked
+asked_by c = option_and_then built (option_and_then (λ x. if is_run x then None else Some x) c)
+
+abbrev pub asked_of : List (List ℕ) → Option Asked
+asked_of words = option_and_then built (plain_command_of words)

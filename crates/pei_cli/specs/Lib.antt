@@ -1,5 +1,6 @@
 pub mod Commands
 pub mod Jobs
+pub mod Asking
 pub mod Machines
 pub mod Loading
 pub mod Reports

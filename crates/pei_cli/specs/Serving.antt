@@ -12,7 +12,8 @@ use Rattle.pei_io.specs.declared.files.Which.TheVariants as which
 use Rattle.pei_asm.specs.declared.faults.AsmKind.TheVariants as kind
 use Rattle.pei_asm.specs.Form.{IsFormOf}
 use Rattle.sched_run.specs.Scheduled.{run_of}
-use Rattle.pei_cli.specs.Jobs.{Job}
+use Rattle.workload_gen.specs.Generated.{generated}
+use Rattle.pei_cli.specs.Jobs.{Job, Asked, Runs, Generates}
 use Rattle.pei_cli.specs.Loading.{IsLoadRefusal}
 use Rattle.pei_cli.specs.Machines.{IsBuiltIn}
 use Rattle.pei_cli.specs.declared.ends.PlainEnd.{PlainEnd}
@@ -61,6 +62,7 @@ run_of_job job p m image = run_of p m image job.policy job.turns
 abbrev pub IsAnswerOf : MachineSpec → Run → PlainEnd → Type 0
 IsAnswerOf m r (ends.Sched status journal cores turns) =
     (status ≡ status_of m r.journal) × (journal.events ≡ r.journal) × (cores ≡ ends_of r.journal) × (turns ≡ r.turns)
+IsAnswerOf m r (ends.Text status) = ⊥
 
 -- The report of the run was written: the whole, or a front of it.
 abbrev pub Reports : Listing → MachineSpec → Contents → Run → Option (List ℕ) → Option (List ℕ) → Type 0
@@ -81,10 +83,22 @@ RunsJob job p before now faults faults_now (Err (fault.LoadBad f)) =
 RunsJob job p before now faults faults_now (Err fault.OutOfMemory) = now ≡ before
 RunsJob job p before now faults faults_now (Err _) = ⊥
 
+-- ---- a generated program
+
+-- The generated program of a number was written, or a front of it.
+abbrev pub WritesGenerated : ℕ → Option (List ℕ) → Option (List ℕ) → ℕ → ℕ → Result PlainEnd Fault → Type 0
+WritesGenerated n before now faults faults_now (Ok (ends.Text status)) = (status ≡ 0) × Added (generated n) before now
+WritesGenerated n before now faults faults_now (Err fault.WriteFault) =
+    ((k : ℕ) × (k ≤ length (generated n)) × Added (take k (generated n)) before now) × Rose faults faults_now
+WritesGenerated n before now faults faults_now _ = ⊥
+
 -- ---- the whole command
 
--- The program was not read, and nothing was written; or it was, and this is its run.
-abbrev pub Serves : Job → Option (List ℕ) → ℕ → ℕ → ℕ → Option (List ℕ) → Option (List ℕ) → ℕ → ℕ → Result PlainEnd Fault → Type 0
-Serves job held taken faults faults_now before now sink_faults sink_faults_now result =
-    ((f : Fault) × (result ≡ Err f) × ReadsProgram held taken faults faults_now (Err f) × (now ≡ before))
-    ⊎ ((p : Listing) × ReadsProgram held taken faults faults_now (Ok p) × RunsJob job p before now sink_faults sink_faults_now result)
+-- A run: the program was not read, and nothing was written; or it was, and this is its run. Or a generated program. `held`
+-- tells what a file of a name holds.
+abbrev pub Serves : Asked → (List ℕ → Option (List ℕ)) → ℕ → ℕ → ℕ → Option (List ℕ) → Option (List ℕ) → ℕ → ℕ → Result PlainEnd Fault → Type 0
+Serves (Runs job) held taken faults faults_now before now sink_faults sink_faults_now result =
+    ((f : Fault) × (result ≡ Err f) × ReadsProgram (held job.program) taken faults faults_now (Err f) × (now ≡ before))
+    ⊎ ((p : Listing) × ReadsProgram (held job.program) taken faults faults_now (Ok p) × RunsJob job p before now sink_faults sink_faults_now result)
+Serves (Generates n) held taken faults faults_now before now sink_faults sink_faults_now result =
+    WritesGenerated n before now sink_faults sink_faults_now result

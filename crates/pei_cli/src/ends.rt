@@ -15,4 +15,8 @@ pub enum PlainEnd {
         cores: [Option<EndKind>; 8],
         turns: u64,
     },
+    /// A text was written; the status is 0.
+    Text {
+        status: u8,
+    },
 }

@@ -5,8 +5,9 @@ ghost use Rattle.pei_io.specs.Outside.{LeavesOthers};
 ghost use Rattle.pei_io.specs.declared.files.Which.{Which};
 ghost use Rattle.sched_run.specs.Choosing.{HasActorsOf};
 ghost use Rattle.pei_types.specs.declared.machines.MachineSpec.{MachineSpec};
-ghost use Rattle.pei_cli.specs.Jobs.{job_of};
-ghost use Rattle.pei_cli.specs.Serving.{IsBare, ReadsProgram, RunsJob, Serves};
+ghost use Rattle.pei_cli.specs.Asking.{runs_as};
+ghost use Rattle.pei_cli.specs.Jobs.{Job, Runs, Generates, asked_of};
+ghost use Rattle.pei_cli.specs.Serving.{IsBare, ReadsProgram, RunsJob, Serves, WritesGenerated};
 
 use crate::ends::PlainEnd;
 use crate::faults::Fault;
@@ -14,25 +15,28 @@ use crate::loading::{LoadFault, load};
 use crate::machines::built_in;
 use crate::report::report;
 use crate::status::run_status;
-use crate::words::{Job, asked};
+use crate::words::{Asked, Run, read_words};
 use crate::writing::write_lines;
 use pei_asm::{AsmFault, AsmKind, assemble};
 use pei_io::{Failed, Files, ReadEnd, Sink, Text, Which, read_limited};
 use pei_types::Program;
 use sched_run::run_schedule;
 use std::alloc::Global;
+use workload_gen::generate;
 
 /// The most bytes of a program's file.
 const MOST_BYTES: u32 = 4096;
 
 /// Serves the words `sched PROGRAM MACHINE SEED TURNS`: it reads the program, runs it by the schedule on the plain
-/// machine, and writes the report to the sink.
+/// machine, and writes the report to the sink. And it serves `gen N`: it writes the generated program of that number.
 ///
 /// PROGRAM is a file's name. MACHINE is `-1` to `-8`, the built-in machine of that many cores. SEED is `rr`, `serial` or
-/// a decimal number below 2^64, and TURNS a decimal number of at most 1,000,000,000. Other words are `Usage`.
+/// a decimal number below 2^64, and TURNS a decimal number of at most 1,000,000,000. N is a decimal number below 2^64.
+/// Other words are `Usage`.
 ///
 /// The condition is that no file was opened before. Nothing is written before a fault other than `WriteFault`, and
-/// before that one a front of the report. `OutOfMemory` may come in the place of any answer but `Usage`.
+/// before that one a front of the output. `OutOfMemory` may come in the place of any answer but `Usage`, and never for
+/// `gen`.
 pub fn plain<F: Files, K: Sink>(
     alloc: Global,
     words: &[Text],
@@ -40,18 +44,50 @@ pub fn plain<F: Files, K: Sink>(
     sink: &mut K,
 ) -> Result<PlainEnd, Fault>
     requires { (which : Which) → F.name files.old which ≡ None }
-    ensures usage { (result ≡ Err Fault.Usage) ↔ (job_of words.now ≡ None) }
-    ensures idle { job_of words.now ≡ None → (files.new ≡ files.old) × (sink.new ≡ sink.old) }
-    ensures serves { IfSome (job_of words.now) (λ job. Serves job (F.held files.old Which.Program job.program) (F.taken files.new Which.Program) (F.faults files.old Which.Program) (F.faults files.new Which.Program) (K.written sink.old) (K.written sink.new) (K.faults sink.old) (K.faults sink.new) result) }
-    ensures named { IfSome (job_of words.now) (λ job. result ≢ Err Fault.OutOfMemory → F.name files.new Which.Program ≡ Some job.program) }
+    ensures usage { (result ≡ Err Fault.Usage) ↔ (asked_of words.now ≡ None) }
+    ensures idle { asked_of words.now ≡ None → (files.new ≡ files.old) × (sink.new ≡ sink.old) }
+    ensures serves { IfSome (asked_of words.now) (λ a. Serves a (F.held files.old Which.Program) (F.taken files.new Which.Program) (F.faults files.old Which.Program) (F.faults files.new Which.Program) (K.written sink.old) (K.written sink.new) (K.faults sink.old) (K.faults sink.new) result) }
+    ensures named { (job : Job) → asked_of words.now ≡ Some (Runs job) → result ≢ Err Fault.OutOfMemory → F.name files.new Which.Program ≡ Some job.program }
+    ensures unread { (n : ℕ) → asked_of words.now ≡ Some (Generates n) → files.new ≡ files.old }
     ensures rising { (F.faults files.old Which.Program ≤ F.faults files.new Which.Program) × (K.faults sink.old ≤ K.faults sink.new) }
     ensures others { LeavesOthers F.held F.left F.name F.taken F.faults Which.Program files.old files.new }
 {
-    let Some(job) = asked(words) else {
-        return Err(Fault::Usage);
-    };
-    let program = read_program(alloc, files, words[1].as_str())?;
-    run_job(alloc, &program, &job, sink)
+    match read_words(words) {
+        None => Err(Fault::Usage),
+        Some(Asked::Run(run)) => run_file(alloc, words[1].as_str(), &run, files, sink),
+        Some(Asked::Generate(n)) => write_generated(n, sink),
+    }
+}
+
+/// Writes the generated program of a number.
+fn write_generated<K: Sink>(n: u64, sink: &mut K) -> Result<PlainEnd, Fault>
+    ensures writes { WritesGenerated n (K.written sink.old) (K.written sink.new) (K.faults sink.old) (K.faults sink.new) result }
+    ensures rising { K.faults sink.old ≤ K.faults sink.new }
+{
+    match generate(n, sink) {
+        Ok(()) => Ok(PlainEnd::Text { status: 0 }),
+        Err(Failed) => Err(Fault::WriteFault),
+    }
+}
+
+/// Runs the program of a file of this name, as the words ask, and writes the report.
+fn run_file<F: Files, K: Sink>(
+    alloc: Global,
+    name: &str,
+    run: &Run,
+    files: &mut F,
+    sink: &mut K,
+) -> Result<PlainEnd, Fault>
+    requires unopened { F.name files.old Which.Program ≡ None }
+    requires cores { (1 ≤ run.now.cores) × (run.now.cores ≤ 8) }
+    requires actors { (m : MachineSpec) → HasActorsOf m run.now.policy }
+    ensures serves { Serves (runs_as name.now run.now) (F.held files.old Which.Program) (F.taken files.new Which.Program) (F.faults files.old Which.Program) (F.faults files.new Which.Program) (K.written sink.old) (K.written sink.new) (K.faults sink.old) (K.faults sink.new) result }
+    ensures named { result ≢ Err Fault.OutOfMemory → F.name files.new Which.Program ≡ Some name.now }
+    ensures rising { (F.faults files.old Which.Program ≤ F.faults files.new Which.Program) × (K.faults sink.old ≤ K.faults sink.new) }
+    ensures others { LeavesOthers F.held F.left F.name F.taken F.faults Which.Program files.old files.new }
+{
+    let program = read_program(alloc, files, name)?;
+    run_program(alloc, &program, run, sink)
 }
 
 /// Reads the program of a file of this name.
@@ -94,25 +130,25 @@ fn not_built() -> AsmFault
 }
 
 /// Runs a program as the words ask, and writes the report.
-fn run_job<K: Sink>(
+fn run_program<K: Sink>(
     alloc: Global,
     program: &Program,
-    job: &Job,
+    run: &Run,
     sink: &mut K,
 ) -> Result<PlainEnd, Fault>
     requires bare { IsBare program.now }
-    requires cores { (1 ≤ job.now.cores) × (job.now.cores ≤ 8) }
-    requires actors { (m : MachineSpec) → HasActorsOf m job.now.policy }
-    ensures runs { (name : List ℕ) → RunsJob (record { program = name; cores = job.now.cores; policy = job.now.policy; turns = job.now.turns }) program.now (K.written sink.old) (K.written sink.new) (K.faults sink.old) (K.faults sink.new) result }
+    requires cores { (1 ≤ run.now.cores) × (run.now.cores ≤ 8) }
+    requires actors { (m : MachineSpec) → HasActorsOf m run.now.policy }
+    ensures runs { (name : List ℕ) → RunsJob (record { program = name; cores = run.now.cores; policy = run.now.policy; turns = run.now.turns }) program.now (K.written sink.old) (K.written sink.new) (K.faults sink.old) (K.faults sink.new) result }
     ensures rising { K.faults sink.old ≤ K.faults sink.new }
 {
-    let machine = built_in(job.cores);
+    let machine = built_in(run.cores);
     let image = match load(alloc, program, &machine) {
         Ok(image) => image,
         Err(LoadFault::OutOfMemory) => return Err(Fault::OutOfMemory),
         Err(fault) => return Err(Fault::LoadBad(fault)),
     };
-    let Ok(end) = run_schedule(alloc, program, &machine, &image, &job.policy, job.turns) else {
+    let Ok(end) = run_schedule(alloc, program, &machine, &image, &run.policy, run.turns) else {
         return Err(Fault::OutOfMemory);
     };
     let journal = end.fabric.into_journal();

@@ -4,8 +4,9 @@ ghost use Rattle.std.specs.Prelude.{◌≡◌, ◌+◌, ◌<◌, ◌≤◌, [], 
 ghost use Rattle.std.specs.Str.{bytes_eq};
 ghost use Rattle.pei_types.specs.declared.machines.MachineSpec.{MachineSpec};
 ghost use Rattle.sched_run.specs.Choosing.{HasActorsOf};
-ghost use Rattle.pei_cli.specs.Commands.{built_in_words, decimal_below, schedule_word};
-ghost use Rattle.pei_cli.specs.Jobs.{job_of, policy_of_word};
+ghost use Rattle.pei_cli.specs.Commands.{built_in_words, decimal_below, schedule_word, sched_words, gen_words};
+ghost use Rattle.pei_cli.specs.Jobs.{Generates, asked_by, policy_of_word};
+ghost use Rattle.pei_cli.specs.Asking.{Asks, runs_as};
 
 use pei_io::Text;
 use sched_run::Policy;
@@ -13,35 +14,63 @@ use sched_run::Policy;
 /// The most turns that words can ask for.
 const MOST_TURNS: u64 = 1_000_000_000;
 
-/// A scheduled run with its report, on a built-in machine. Its program is the second word.
+/// What words can ask for.
 #[derive(Drop)]
-pub(crate) struct Job {
+pub(crate) enum Asked {
+    /// A scheduled run. Its program is the second word.
+    Run(Run),
+    /// The generated program of a number.
+    Generate(u64),
+}
+
+/// A scheduled run with its report, on a built-in machine.
+#[derive(Drop)]
+pub(crate) struct Run {
     pub cores: u8,
     pub policy: Policy,
     pub turns: u64,
 }
 
 /// What the words ask for, if it is built.
-pub(crate) fn asked(words: &[Text]) -> Option<Job>
-    ensures some { IfSome result (λ j. job_of words.now ≡ Some (record { program = get_or words.now 1 []; cores = j.cores; policy = j.policy; turns = j.turns })) }
-    ensures within { IfSome result (λ j. (1 < length words.now) × (1 ≤ j.cores) × (j.cores ≤ 8)) }
-    ensures actors { IfSome result (λ j. (m : MachineSpec) → HasActorsOf m j.policy) }
-    ensures none { result ≡ None → job_of words.now ≡ None }
+pub(crate) fn read_words(words: &[Text]) -> Option<Asked>
+    ensures { Asks words.now result }
 {
-    let [verb, _, machine, seed, turns] = words else {
+    let (verb, rest) = words.split_first()?;
+    match verb.as_str() {
+        "sched" => Some(Asked::Run(run_words(rest)?)),
+        "gen" => Some(Asked::Generate(generate_words(rest)?)),
+        _ => None,
+    }
+}
+
+/// The run that the words behind `sched` ask for.
+fn run_words(words: &[Text]) -> Option<Run>
+    ensures some { IfSome result (λ j. asked_by (sched_words words.now) ≡ Some (runs_as (get_or words.now 0 []) j)) }
+    ensures within { IfSome result (λ j. (0 < length words.now) × (1 ≤ j.cores) × (j.cores ≤ 8)) }
+    ensures actors { IfSome result (λ j. (m : MachineSpec) → HasActorsOf m j.policy) }
+    ensures none { result ≡ None → asked_by (sched_words words.now) ≡ None }
+{
+    let [_, machine, seed, turns] = words else {
         return None;
     };
-    if verb.as_str() != "sched" {
-        return None;
-    }
     let cores = built_in_cores(machine.as_str())?;
     let turns = decimal_up_to(turns.as_str(), MOST_TURNS)?;
     let policy = policy(seed.as_str())?;
-    Some(Job {
+    Some(Run {
         cores,
         policy,
         turns,
     })
+}
+
+/// The number that the word behind `gen` gives.
+fn generate_words(words: &[Text]) -> Option<u64>
+    ensures { option_map Generates result ≡ asked_by (gen_words words.now) }
+{
+    let [number] = words else {
+        return None;
+    };
+    decimal_up_to(number.as_str(), u64::MAX)
 }
 
 /// The number of cores of the built-in machine that a word names.

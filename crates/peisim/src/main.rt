@@ -26,13 +26,9 @@ fn serve(rt: &HostRuntime) -> Result<u8, Fault> {
     let words = words(rt)?;
     let mut files = DiskFiles::make(rt);
     let mut sink = OutSink::make(rt.stdout());
-    let PlainEnd::Sched { status, .. } = plain(
-        rt.alloc(),
-        words.as_slice(),
-        &mut files,
-        &mut sink,
-    )?;
-    Ok(status)
+    match plain(rt.alloc(), words.as_slice(), &mut files, &mut sink)? {
+        PlainEnd::Sched { status, .. } | PlainEnd::Text { status } => Ok(status),
+    }
 }
 
 /// The words behind the program's name. Words that are no UTF-8 name no command.

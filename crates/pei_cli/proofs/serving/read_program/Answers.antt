@@ -1,6 +1,6 @@
 use Rattle.std.proofs.Common.{sym, subst, List, ℕ}
 use Rattle.pei_asm.specs.Form.{IsFormOf}
-use Rattle.pei_cli.proofs.WholeCommand.{whole_fault, none_held}
+use Rattle.pei_cli.proofs.NoProgram.{whole_fault, none_held}
 use Rattle.pei_cli.proofs.serving.read_program.Goals as goal
 
 pub returns-clause-reads : goal.returns-clause-reads

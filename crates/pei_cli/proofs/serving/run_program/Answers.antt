@@ -1,13 +1,13 @@
 use Rattle.std.proofs.Common.{rules}
 use Rattle.pei_cli.proofs.Served.{served, served_front}
-use Rattle.pei_cli.proofs.serving.run_job.Goals as goal
+use Rattle.pei_cli.proofs.serving.run_program.Goals as goal
 
 pub run_schedule-requires-clause-actors : goal.run_schedule-requires-clause-actors
 run_schedule-requires-clause-actors g c = c.requires.actors c.built_in-machine.result
 
 pub returns-in-Ok-write_lines-clause-runs : goal.returns-in-Ok-write_lines-clause-runs
 returns-in-Ok-write_lines-clause-runs g c name =
-    served (record { program = name; cores = c.args.job.now.cores; policy = c.args.job.now.policy; turns = c.args.job.now.turns })
+    served (record { program = name; cores = c.args.run.now.cores; policy = c.args.run.now.policy; turns = c.args.run.now.turns })
     c.args.program.now c.built_in-machine.result c.in-Ok.image c.in-Ok-run_schedule.end c.run_status-status.result c.into_journal-journal.result c.as_slice.result.now _ _ _ _
     (record {
       bare = c.requires.bare;
@@ -23,7 +23,7 @@ returns-in-Ok-write_lines-clause-runs g c name =
 
 pub returns-clause-runs : goal.returns-clause-runs
 returns-clause-runs g c name =
-    served_front (record { program = name; cores = c.args.job.now.cores; policy = c.args.job.now.policy; turns = c.args.job.now.turns })
+    served_front (record { program = name; cores = c.args.run.now.cores; policy = c.args.run.now.policy; turns = c.args.run.now.turns })
     c.args.program.now c.built_in-machine.result c.in-Ok.image c.in-Ok-run_schedule.end c.run_status-status.result c.into_journal-journal.result c.as_slice.result.now _ _ _ _ _
     (record {
       bare = c.requires.bare;
