@@ -1,5 +1,5 @@
 -- Writes of one text behind another.
-use Rattle.std.proofs.Common.{ℕ, ◌+◌, ◌≤◌, List, ◌++◌, take, length, Option, Result, Ok, Err, arith, length-append}
+use Rattle.std.proofs.Common.{ℕ, ◌+◌, ◌≤◌, List, ◌++◌, take, length, Option, Result, Ok, Err, IsErr, arith, length-append}
 use Rattle.std.proofs.lemmas.List.{take-append-le}
 use Rattle.std.proofs.Math.Seq.{take-append-add}
 use Rattle.pei_io.specs.declared.files.Failed.{Failed}
@@ -28,3 +28,8 @@ pub first_stops : (first second : List ℕ) (before mid : Option (List ℕ)) (fa
 first_stops first second before mid faults faults_mid failed h =
     let front = h.0
     in ((front.0, front_before first second front.0 front.1, rw (take-append-le front.0 first second front.1) front.2), h.1, h.2)
+
+-- however the failure is told
+pub first_fails : (first second : List ℕ) (before mid : Option (List ℕ)) (faults faults_mid : ℕ) (failed : Failed) (result : Result (Unit {0}) Failed) → Writes first before mid faults faults_mid (Err failed) → IsErr result → Writes (first ++ second) before mid faults faults_mid result
+first_fails first second before mid faults faults_mid failed (Ok done) h is_err = absurd (cc is_err)
+first_fails first second before mid faults faults_mid failed (Err other) h is_err = first_stops first second before mid faults faults_mid failed h

@@ -5,6 +5,7 @@ ghost use Rattle.pei_io.specs.Outside.{Writes};
 ghost use Rattle.workload_gen.specs.Generated.{generated, rounds};
 
 use itoa::Buffer;
+use pei_io::laws::writes_join;
 use pei_io::{Failed, Sink, write_all};
 
 /// The lines before the seed's: all cores enter at `start`, and the sum is that of 4,096 words.
@@ -37,6 +38,7 @@ fn write_number<K: Sink>(number: u64, sink: &mut K) -> Result<(), Failed>
 fn write_setting<K: Sink>(before: &[u8], number: u64, sink: &mut K) -> Result<(), Failed>
     ensures { Writes (before.now ++ decimal number ++ codes "\n") (K.written sink.old) (K.written sink.new) (K.faults sink.old) (K.faults sink.new) result }
 {
+    writes_join();
     write_all(sink, before)?;
     write_number(number, sink)?;
     write_all(sink, b"\n")
@@ -48,6 +50,7 @@ fn write_setting<K: Sink>(before: &[u8], number: u64, sink: &mut K) -> Result<()
 pub fn generate<K: Sink>(n: u64, sink: &mut K) -> Result<(), Failed>
     ensures { Writes (generated n) (K.written sink.old) (K.written sink.new) (K.faults sink.old) (K.faults sink.new) result }
 {
+    writes_join();
     write_all(sink, HEAD)?;
     write_setting(b"start: li r1, ", n, sink)?;
     write_all(sink, CONSTANTS)?;

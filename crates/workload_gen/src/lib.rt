@@ -6,4 +6,3 @@ mod generating;
 pub use generating::generate;
 
 pub mod evidence;
-pub mod laws;
