@@ -1,8 +1,8 @@
 -- What a command comes to.
-use Rattle.std.specs.Prelude.{◌≡◌, ⊤, ◌⊎◌, ℕ, ◌≤◌, false, List, [], length, take, Option, IfSome, Result, Ok, Err}
+use Rattle.std.specs.Prelude.{◌≡◌, ⊤, ◌⊎◌, ℕ, ◌≤◌, false, List, [], length, take, Option, Some, IfSome, Result, Ok, Err}
 use Rattle.pei_types.specs.declared.machines.MachineSpec.{MachineSpec}
 use Rattle.pei_types.specs.Ends.{ends_of, status_of}
-use Rattle.pei_types.specs.Image.{IsImageOf}
+use Rattle.pei_types.specs.Image.{IsImageOf, NoEntry, load_refusal}
 use Rattle.pei_types.specs.Legal.{FlatLegal}
 use Rattle.pei_types.specs.Program.{Listing, Contents}
 use Rattle.pei_types.specs.Schedule.{Run}
@@ -14,12 +14,12 @@ use Rattle.pei_asm.specs.Form.{IsFormOf}
 use Rattle.sched_run.specs.Scheduled.{run_of}
 use Rattle.workload_gen.specs.Generated.{generated}
 use Rattle.pei_cli.specs.Jobs.{Job, Asked, Runs, Generates}
-use Rattle.pei_cli.specs.Loading.{IsLoadRefusal}
 use Rattle.pei_cli.specs.Machines.{IsBuiltIn}
 use Rattle.pei_cli.specs.declared.ends.PlainEnd.{PlainEnd}
 use Rattle.pei_cli.specs.declared.ends.PlainEnd.TheVariants as ends
 use Rattle.pei_cli.specs.declared.faults.Fault.{Fault}
 use Rattle.pei_cli.specs.declared.faults.Fault.TheVariants as fault
+use Rattle.pei_cli.specs.declared.loading.LoadFault.TheVariants as load
 
 -- ---- reading the program
 
@@ -78,8 +78,8 @@ RunsJob job p before now faults faults_now (Ok end) =
     × FlatLegal p m image (run_of_job job p m image).journal × Reports p m image (run_of_job job p m image) before now
 RunsJob job p before now faults faults_now (Err fault.WriteFault) =
     (m : MachineSpec) × (image : Contents) × Begins job p m image × ReportsFront p m image (run_of_job job p m image) before now × Rose faults faults_now
-RunsJob job p before now faults faults_now (Err (fault.LoadBad f)) =
-    (m : MachineSpec) × IsBuiltIn job.cores m × IsLoadRefusal p m f × (now ≡ before)
+RunsJob job p before now faults faults_now (Err (fault.LoadBad (load.NoEntry core))) =
+    (m : MachineSpec) × IsBuiltIn job.cores m × (load_refusal p m ≡ Some (NoEntry core)) × (now ≡ before)
 RunsJob job p before now faults faults_now (Err fault.OutOfMemory) = now ≡ before
 RunsJob job p before now faults faults_now (Err _) = ⊥
 

@@ -15,3 +15,6 @@ pub use ends::PlainEnd;
 pub use faults::{Fault, status_of, write_fault};
 pub use loading::LoadFault;
 pub use serving::plain;
+
+#[cfg(test)]
+mod tests;

@@ -1,6 +1,6 @@
 //! The top call for commands without threads.
 
-ghost use Rattle.std.specs.Prelude.{◌≡◌, ◌≢◌, ◌≤◌, ◌↔◌, ℕ, List, None, Some, Err, IfSome, IfOk};
+ghost use Rattle.std.specs.Prelude.{◌≡◌, ◌≢◌, ◌≤◌, ◌↔◌, ℕ, List, None, Some, Err, IfSome, IfOk, IfErr};
 ghost use Rattle.pei_io.specs.Outside.{LeavesOthers};
 ghost use Rattle.pei_io.specs.declared.files.Which.{Which};
 ghost use Rattle.sched_run.specs.Choosing.{HasActorsOf};
@@ -34,8 +34,8 @@ const MOST_BYTES: u32 = 4096;
 /// a decimal number below 2^64, and TURNS a decimal number of at most 1,000,000,000. N is a decimal number below 2^64.
 /// Other words are `Usage`.
 ///
-/// The condition is that no file was opened before. Nothing is written before a fault other than `WriteFault`, and
-/// before that one a front of the output. `OutOfMemory` may come in the place of any answer but `Usage`, and never for
+/// The condition is that no file was opened before. A fault other than `WriteFault` leaves the sink as it was, and before
+/// that one a front of the output is written. `OutOfMemory` may come in the place of any answer but `Usage`, and never for
 /// `gen`.
 pub fn plain<F: Files, K: Sink>(
     alloc: Global,
@@ -47,6 +47,7 @@ pub fn plain<F: Files, K: Sink>(
     ensures usage { (result ≡ Err Fault.Usage) ↔ (asked_of words.now ≡ None) }
     ensures idle { asked_of words.now ≡ None → (files.new ≡ files.old) × (sink.new ≡ sink.old) }
     ensures serves { IfSome (asked_of words.now) (λ a. Serves a (F.held files.old Which.Program) (F.taken files.new Which.Program) (F.faults files.old Which.Program) (F.faults files.new Which.Program) (K.written sink.old) (K.written sink.new) (K.faults sink.old) (K.faults sink.new) result) }
+    ensures untouched { IfErr result (λ f. f ≢ Fault.WriteFault → sink.new ≡ sink.old) }
     ensures named { (job : Job) → asked_of words.now ≡ Some (Runs job) → result ≢ Err Fault.OutOfMemory → F.name files.new Which.Program ≡ Some job.program }
     ensures unread { (n : ℕ) → asked_of words.now ≡ Some (Generates n) → files.new ≡ files.old }
     ensures rising { (F.faults files.old Which.Program ≤ F.faults files.new Which.Program) × (K.faults sink.old ≤ K.faults sink.new) }
@@ -62,6 +63,7 @@ pub fn plain<F: Files, K: Sink>(
 /// Writes the generated program of a number.
 fn write_generated<K: Sink>(n: u64, sink: &mut K) -> Result<PlainEnd, Fault>
     ensures writes { WritesGenerated n (K.written sink.old) (K.written sink.new) (K.faults sink.old) (K.faults sink.new) result }
+    ensures untouched { IfErr result (λ f. f ≢ Fault.WriteFault → sink.new ≡ sink.old) }
     ensures rising { K.faults sink.old ≤ K.faults sink.new }
 {
     match generate(n, sink) {
@@ -82,6 +84,7 @@ fn run_file<F: Files, K: Sink>(
     requires cores { (1 ≤ run.now.cores) × (run.now.cores ≤ 8) }
     requires actors { (m : MachineSpec) → HasActorsOf m run.now.policy }
     ensures serves { Serves (runs_as name.now run.now) (F.held files.old Which.Program) (F.taken files.new Which.Program) (F.faults files.old Which.Program) (F.faults files.new Which.Program) (K.written sink.old) (K.written sink.new) (K.faults sink.old) (K.faults sink.new) result }
+    ensures untouched { IfErr result (λ f. f ≢ Fault.WriteFault → sink.new ≡ sink.old) }
     ensures named { result ≢ Err Fault.OutOfMemory → F.name files.new Which.Program ≡ Some name.now }
     ensures rising { (F.faults files.old Which.Program ≤ F.faults files.new Which.Program) × (K.faults sink.old ≤ K.faults sink.new) }
     ensures others { LeavesOthers F.held F.left F.name F.taken F.faults Which.Program files.old files.new }
@@ -140,13 +143,16 @@ fn run_program<K: Sink>(
     requires cores { (1 ≤ run.now.cores) × (run.now.cores ≤ 8) }
     requires actors { (m : MachineSpec) → HasActorsOf m run.now.policy }
     ensures runs { (name : List ℕ) → RunsJob (record { program = name; cores = run.now.cores; policy = run.now.policy; turns = run.now.turns }) program.now (K.written sink.old) (K.written sink.new) (K.faults sink.old) (K.faults sink.new) result }
+    ensures untouched { IfErr result (λ f. f ≢ Fault.WriteFault → sink.new ≡ sink.old) }
     ensures rising { K.faults sink.old ≤ K.faults sink.new }
 {
     let machine = built_in(run.cores);
     let image = match load(alloc, program, &machine) {
         Ok(image) => image,
         Err(LoadFault::OutOfMemory) => return Err(Fault::OutOfMemory),
-        Err(fault) => return Err(Fault::LoadBad(fault)),
+        Err(LoadFault::NoEntry { core }) => {
+            return Err(Fault::LoadBad(LoadFault::NoEntry { core }));
+        }
     };
     let Ok(end) = run_schedule(alloc, program, &machine, &image, &run.policy, run.turns) else {
         return Err(Fault::OutOfMemory);

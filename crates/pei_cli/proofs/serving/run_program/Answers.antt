@@ -35,4 +35,7 @@ returns-clause-runs g c name =
       told = c.run_status-status.ensures;
       spelled = search rules;
     })
-    c.in-Err-write_lines.ensures
+    c.in-Err.ensures
+
+pub returns-in-Err-NoEntry-clause-runs : goal.returns-in-Err-NoEntry-clause-runs
+returns-in-Err-NoEntry-clause-runs g c name = (c.built_in-machine.result, c.built_in-machine.ensures, search rules, search rules)
