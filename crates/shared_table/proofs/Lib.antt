@@ -1,0 +1,11 @@
+pub mod Clients
+pub mod Diaries
+pub mod Gathering
+pub mod Lanes
+pub mod Made
+pub mod OutputLogs
+pub mod Pairs
+pub mod Sides
+pub mod Steps
+pub mod Totals
+pub mod Turns

@@ -1,0 +1,13 @@
+pub mod Actives
+pub mod Claims
+pub mod Closing
+pub mod Diaries
+pub mod Outputs
+pub mod Own
+pub mod Parts
+pub mod Place
+pub mod Receipts
+pub mod Rule
+pub mod Seats
+pub mod Slot
+pub mod Sums

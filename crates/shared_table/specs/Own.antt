@@ -1,0 +1,61 @@
+-- What a seat has, and what it keeps of it beside its view.
+use Rattle.std.specs.Prelude.{◌≡◌, ◌≢◌, ℕ, ◌-◌, ◌<◌, Bool, true, false, List, [], ◌∷◌, length, Option, None}
+use mathlib.Core.Option.{some}
+use lib.ListN.{get_elem?}
+use Rattle.atomic_table.specs.Table.{Me}
+use Rattle.pei_types.specs.declared.operations.Mode.{Mode}
+use Rattle.shared_table.specs.declared.claims.Active.{Active}
+use Rattle.shared_table.specs.declared.claims.Claim.{Claim}
+use Rattle.shared_table.specs.declared.claims.Claim.TheVariants.{Free, Announced, Held}
+use Rattle.shared_table.specs.declared.claims.Knowledge.{Knowledge}
+
+-- the lane has this claim
+abbrev pub Has : Knowledge → ℕ → Claim → Type 0
+Has v lane c = (0 < lane) × (get_elem? v.claims (lane - 1) ≡ some c)
+
+-- the lane holds a claim
+abbrev pub IsHolding : Knowledge → ℕ → Type 0
+IsHolding v lane = (e : ℕ) × (m : Mode) × Has v lane (Held e m)
+
+-- the lane is announced
+abbrev pub IsWaiting : Knowledge → ℕ → Type 0
+IsWaiting v lane = (e : ℕ) × Has v lane (Announced e)
+
+-- the claim is on one of n entries, if on any
+abbrev pub IsWithin : ℕ → Claim → Type 0
+IsWithin n Free = Unit {0}
+IsWithin n (Announced d) = d < n
+IsWithin n (Held d m) = d < n
+
+-- what a seat keeps of its claims beside its view: all four lanes, each on an entry of the table
+abbrev pub IsOwn : ℕ → Knowledge → List Claim → Type 0
+IsOwn words v xs = (v.claims ≡ xs) × (length xs ≡ 4) × ((i : ℕ) (c : Claim) → get_elem? xs i ≡ some c → IsWithin (words - 9) c)
+
+-- no active PEI is in the lane
+abbrev pub IsIdle : Knowledge → ℕ → Type 0
+IsIdle v lane = (j : ℕ) (a : Active) → get_elem? v.side.diary.active j ≡ some a → a.lane.0 ≢ lane
+
+-- the lane's claim may be given back
+abbrev pub IsQuiet : Knowledge → ℕ → Claim → Type 0
+IsQuiet v lane Free = Unit {0}
+IsQuiet v lane (Announced d) = Unit {0}
+IsQuiet v lane (Held d m) = IsIdle v lane
+
+-- the slots that a seat has: with the slot out, an empty one
+abbrev pub slots_of : {S : Type 0} → Bool → List (ℕ × Option S)
+slots_of true = (0, None) ∷ []
+slots_of false = []
+
+-- a seat that may step, and stands for its core alone
+pub record IsSteady {S : Type 0} (me : Me (Option S) Knowledge) (core : ℕ) : Type 0 where
+  pub stays : me.0.side.gone ≡ false
+  pub alone : me.0.side.share ≡ 1
+  pub gathered : me.0.side.gathered ≡ []
+  pub number : me.0.side.name.core ≡ core
+  pub slots : me.1 ≡ slots_of me.0.side.turn
+
+-- the entry that a claim is on
+abbrev pub place_of : Claim → ℕ
+place_of Free = 0
+place_of (Announced d) = d
+place_of (Held d m) = d

@@ -1,0 +1,60 @@
+-- The parts of what a seat knows, each by its name.
+use Rattle.std.specs.Prelude.{ℕ, ◌-◌, Bool, List}
+use Rattle.pei_types.specs.declared.events.Event.{Event}
+use Rattle.shared_table.specs.declared.claims.Active.{Active}
+use Rattle.shared_table.specs.declared.claims.Claim.{Claim}
+use Rattle.shared_table.specs.declared.claims.Look.{Look}
+use Rattle.shared_table.specs.Place.{SeatView}
+use Rattle.shared_table.specs.Claims.{with_claim, with_slot, given_back}
+
+-- the number of its core
+abbrev pub core_number : SeatView → ℕ
+core_number s = s.knows.side.name.core
+
+-- what each of its lanes, 1 to 4, has of the directory
+abbrev pub claims : SeatView → List Claim
+claims s = s.knows.claims
+
+-- its core's events
+abbrev pub mine : SeatView → List Event
+mine s = s.knows.side.diary.mine
+
+-- the log that it last saw
+abbrev pub seen : SeatView → List Event
+seen s = s.knows.side.diary.seen
+
+-- its core's active PEIs
+abbrev pub active : SeatView → List Active
+active s = s.knows.side.diary.active
+
+-- whether it has the slot
+abbrev pub turn : SeatView → Bool
+turn s = s.knows.side.turn
+
+-- the active PEIs of all cores when it last took the slot
+abbrev pub lent : SeatView → List Active
+lent s = s.knows.side.lent
+
+-- the entry and the two words of its last try
+abbrev pub looked : SeatView → Look
+looked s = s.knows.looked
+
+-- how many loads of a directory word it made
+abbrev pub looks : SeatView → ℕ
+looks s = s.knows.looks
+
+-- how many of its steps changed a directory word
+abbrev pub moves : SeatView → ℕ
+moves s = s.knows.moves
+
+-- a seat whose lane changed to this claim, by one step that changed a word
+abbrev pub lane_changed : SeatView → ℕ → Claim → SeatView
+lane_changed s lane c = record s { knows = with_claim s.knows (lane - 1) c }
+
+-- a seat that took the slot, whose value has this log and these active PEIs
+abbrev pub slot_taken : SeatView → List Event → List Active → SeatView
+slot_taken s log as_lent = record s { knows = with_slot s.knows log as_lent }
+
+-- a seat that gave the slot back so
+abbrev pub slot_given : SeatView → List Event → List Active → SeatView
+slot_given s log left = record s { knows = given_back s.knows log left }
