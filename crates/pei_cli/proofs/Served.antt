@@ -6,13 +6,13 @@ use Rattle.pei_types.specs.declared.machines.MachineSpec.{MachineSpec}
 use Rattle.pei_types.specs.Coherence.{cores_of}
 use Rattle.pei_types.specs.Ends.{status_of}
 use Rattle.pei_types.specs.Image.{IsImageOf}
-use Rattle.pei_types.specs.Legal.{FlatLegal}
 use Rattle.pei_types.specs.Program.{Listing, Contents}
 use Rattle.pei_types.specs.Texts.{line, core_lines, ask_lines, stat_lines, report_text}
 use Rattle.journal.specs.Recorded.{Recorded}
 use Rattle.pei_io.specs.declared.files.Failed.{Failed}
 use Rattle.pei_io.specs.Outside.{Writes}
 use Rattle.sched_run.specs.Scheduled.{IsEndOf, run_of}
+use Rattle.sched_run.specs.SixLaws.{SixLaws}
 use Rattle.sched_run.specs.declared.schedule.SchedEnd.{SchedEnd}
 use Rattle.pei_cli.specs.Jobs.{Job}
 use Rattle.pei_cli.specs.Machines.{IsBuiltIn}
@@ -35,7 +35,7 @@ pub record Ran (job : Job) (p : Listing) (m : MachineSpec) (image : Contents) (v
   pub machine : IsBuiltIn job.cores m
   pub loaded : IsImageOf p m image
   pub end : IsEndOf m image (run_of p m image job.policy job.turns) v
-  pub legal : FlatLegal p m image v.fabric.journal
+  pub laws : SixLaws p m image v.fabric.journal
   pub events : journal.events ≡ v.fabric.journal
   pub told : status ≡ status_of m journal.events
   pub spelled : text ≡ flat_map (core_lines journal.events) (cores_of m) ++ line (codes "status" ∷ decimal status ∷ [])
@@ -59,7 +59,7 @@ served job p m image v status journal text before now faults faults_now ran writ
       image,
       record { machine = ran.machine; loaded = ran.loaded },
       (ran.told ∙ ap (status_of m) same, same, ran.end.cores, ran.end.turns),
-      subst (λ (js : List Event). FlatLegal p m image js) ran.end.journal ran.legal,
+      subst (λ (js : List Event). SixLaws p m image js) ran.end.journal ran.laws,
       whole.0,
     )
 

@@ -3,7 +3,6 @@ use Rattle.std.specs.Prelude.{◌≡◌, ⊤, ◌⊎◌, ℕ, ◌≤◌, false, 
 use Rattle.pei_types.specs.declared.machines.MachineSpec.{MachineSpec}
 use Rattle.pei_types.specs.Ends.{ends_of, status_of}
 use Rattle.pei_types.specs.Image.{IsImageOf, NoEntry, load_refusal}
-use Rattle.pei_types.specs.Legal.{FlatLegal}
 use Rattle.pei_types.specs.Program.{Listing, Contents}
 use Rattle.pei_types.specs.Schedule.{Run}
 use Rattle.pei_types.specs.Texts.{report_text}
@@ -12,6 +11,7 @@ use Rattle.pei_io.specs.declared.files.Which.TheVariants as which
 use Rattle.pei_asm.specs.declared.faults.AsmKind.TheVariants as kind
 use Rattle.pei_asm.specs.Form.{IsFormOf}
 use Rattle.sched_run.specs.Scheduled.{run_of}
+use Rattle.sched_run.specs.SixLaws.{SixLaws}
 use Rattle.workload_gen.specs.Generated.{generated}
 use Rattle.pei_cli.specs.Jobs.{Job, Asked, Runs, Generates}
 use Rattle.pei_cli.specs.Machines.{IsBuiltIn}
@@ -71,11 +71,11 @@ Reports p m image r before now = Added (report_text p m image r.journal) before 
 abbrev pub ReportsFront : Listing → MachineSpec → Contents → Run → Option (List ℕ) → Option (List ℕ) → Type 0
 ReportsFront p m image r before now = (n : ℕ) × (n ≤ length (report_text p m image r.journal)) × Added (take n (report_text p m image r.journal)) before now
 
--- The run of a program and its report, or why there is none. Before a fault other than that of writing, nothing was written.
+-- The run of a program, which keeps the six laws, and its report, or why there is none. Before a fault other than that of writing, nothing was written.
 abbrev pub RunsJob : Job → Listing → Option (List ℕ) → Option (List ℕ) → ℕ → ℕ → Result PlainEnd Fault → Type 0
 RunsJob job p before now faults faults_now (Ok end) =
     (m : MachineSpec) × (image : Contents) × Begins job p m image × IsAnswerOf m (run_of_job job p m image) end
-    × FlatLegal p m image (run_of_job job p m image).journal × Reports p m image (run_of_job job p m image) before now
+    × SixLaws p m image (run_of_job job p m image).journal × Reports p m image (run_of_job job p m image) before now
 RunsJob job p before now faults faults_now (Err fault.WriteFault) =
     (m : MachineSpec) × (image : Contents) × Begins job p m image × ReportsFront p m image (run_of_job job p m image) before now × Rose faults faults_now
 RunsJob job p before now faults faults_now (Err (fault.LoadBad (load.NoEntry core))) =

@@ -1,6 +1,7 @@
 //! Writing of texts to a sink.
 
-ghost use Rattle.std.specs.Prelude.{◌≡◌, ◌<◌, ◌≤◌, length, flat_map};
+ghost use Rattle.std.specs.Prelude.{◌≡◌, ◌≢◌, ◌<◌, ◌≤◌, ◌-◌, length, flat_map, take, slice_get, Some};
+ghost use Rattle.std.specs.List.{All};
 ghost use Rattle.pei_io.specs.Outside.{Writes};
 
 use pei_io::laws::writes_join;
@@ -36,6 +37,8 @@ fn line_len(text: &[u8]) -> usize
     requires { 0 < length text.now }
     ensures some { 0 < result }
     ensures within { result ≤ length text.now }
+    ensures first { All (λ b. b ≢ 10) (take (result - 1) text.now) }
+    ensures whole { result < length text.now → slice_get text.now (result - 1) ≡ Some 10 }
 {
     match text.iter().position(|byte| *byte == b'\n') {
         Some(at) => at + 1,

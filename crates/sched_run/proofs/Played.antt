@@ -18,6 +18,7 @@ use Rattle.history_laws.specs.Laws.{PlainRunsAreLegal}
 use Rattle.history_laws.specs.Sound.{ChoosesActors}
 use Rattle.sched_run.specs.Choosing.{policy_of, HasActorsOf}
 use Rattle.sched_run.specs.Scheduled.{HasMade, HasPlayed, IsEndOf, run_of}
+use Rattle.sched_run.specs.SixLaws.{SixLaws}
 use Rattle.sched_run.specs.Tracking.{Tracks, is_over}
 use Rattle.sched_run.specs.declared.policies.Policy.{Policy as Chosen}
 use Rattle.sched_run.specs.declared.policies.Policy.TheVariants as chosen
@@ -127,3 +128,15 @@ ended p m image r v turns track made =
 pub ended_legally : PlainRunsAreLegal → (p : Listing) (m : MachineSpec) (image : Contents) (policy : Chosen) (turns : ℕ) (v : SchedEnd) → HasActorsOf m policy → IsEndOf m image (run_of p m image policy turns) v → FlatLegal p m image v.fabric.journal
 ended_legally laws p m image policy turns v actors end =
     subst (λ (js : List Event). FlatLegal p m image js) (sym end.journal) (laws.legal p m image (policy_of m policy) turns (chooses laws m policy actors))
+
+-- a legal journal keeps each of the six laws
+pub six_laws : (p : Listing) (m : MachineSpec) (image : Contents) (journal : List Event) → FlatLegal p m image journal → SixLaws p m image journal
+six_laws p m image journal legal =
+    record {
+      replies = λ before rest e split. (legal before rest e split).replies;
+      calls = λ before rest e split. (legal before rest e split).calls;
+      order = λ before rest e split. (legal before rest e split).order;
+      exclusion = λ before rest e split. (legal before rest e split).directory;
+      fence = λ before rest e split. (legal before rest e split).fence;
+      race = λ before rest e split. (legal before rest e split).race;
+    }

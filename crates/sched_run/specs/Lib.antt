@@ -6,3 +6,4 @@ pub mod Tracking
 pub mod EndsAfter
 pub mod Choosing
 pub mod Scheduled
+pub mod SixLaws

@@ -5,6 +5,7 @@ ghost use Rattle.pei_types.specs.Legal.{FlatLegal};
 ghost use Rattle.pei_types.specs.Schedule.{run_at_start};
 ghost use Rattle.sched_run.specs.Choosing.{HasActorsOf};
 ghost use Rattle.sched_run.specs.Scheduled.{IsEndOf, HasPlayed, run_of};
+ghost use Rattle.sched_run.specs.SixLaws.{SixLaws};
 
 use crate::plain::Plain;
 use crate::policies::Policy;
@@ -39,6 +40,7 @@ pub fn run_schedule(
     requires actors { HasActorsOf spec.now policy.now }
     ensures run { IfOk result (λ v. IsEndOf spec.now image.now (run_of program.now spec.now image.now policy.now turns) v) }
     ensures legal { IfOk result (λ v. FlatLegal program.now spec.now image.now v.fabric.journal) }
+    ensures laws { IfOk result (λ v. SixLaws program.now spec.now image.now v.fabric.journal) }
 {
     plain_runs_are_legal();
     let mut running = Running::start(alloc, spec, image)?;

@@ -1,7 +1,7 @@
 use Rattle.std.proofs.Common.{subst}
 use Rattle.pei_types.specs.declared.machines.MachineSpec.{MachineSpec}
 use Rattle.sched_run.specs.Scheduled.{HasPlayed, run_of}
-use Rattle.sched_run.proofs.Played.{ended, ended_legally}
+use Rattle.sched_run.proofs.Played.{ended, ended_legally, six_laws}
 use Rattle.sched_run.proofs.schedule.run_schedule.Goals as goal
 
 pub returns-clause-run : goal.returns-clause-run
@@ -13,3 +13,6 @@ returns-clause-run c =
 pub returns-clause-legal : goal.returns-clause-legal
 returns-clause-legal c =
     ended_legally c.plain_runs_are_legal.ensures c.args.program.now c.args.spec.now c.args.image.now c.args.policy.now c.args.turns _ c.requires.actors (returns-clause-run c)
+
+pub returns-clause-laws : goal.returns-clause-laws
+returns-clause-laws c = six_laws c.args.program.now c.args.spec.now c.args.image.now _ (returns-clause-legal c)
