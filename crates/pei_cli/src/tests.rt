@@ -128,6 +128,15 @@ fn runs_are_reported(rt: HostRuntime) -> Result<(), Fail> {
             286,
         ),
         (
+            "sched p -1 rr 1000",
+            RACING,
+            5000,
+            b"core 0 race 2 64 0 0\nstatus 5\n",
+            5,
+            8,
+            26,
+        ),
+        (
             "sched p -1 serial 1000",
             RACING,
             5000,
