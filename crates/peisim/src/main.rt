@@ -1,7 +1,8 @@
 //! The program: the words of its command go to the top call, and it ends with the status that the call answers.
 #![tactic(auto)]
 
-ghost use Rattle.std.specs.Prelude.{◌≡◌, ◌≢◌, IfErr, Err};
+ghost use Rattle.std.specs.Prelude.{◌≡◌};
+ghost use Rattle.peisim.specs.Statuses.{status_of_answer};
 
 use pei_cli::{Fault, PlainEnd, plain, status_of, write_fault};
 use pei_io::{DiskFiles, OutSink, Text};
@@ -10,24 +11,31 @@ use std::io::ErrorKind;
 use std::process::ExitCode;
 
 fn main(rt: HostRuntime) -> ExitCode {
-    match serve(&rt) {
-        Ok(status) => ExitCode::from(status),
-        Err(fault) => {
-            let mut sink = OutSink::make(rt.stderr());
-            // Where standard error fails too, there is nobody left to tell.
-            let _ = write_fault(&fault, &mut sink);
-            ExitCode::from(status_of(&fault))
-        }
+    let answer = serve(&rt);
+    if let Err(fault) = &answer {
+        let mut sink = OutSink::make(rt.stderr());
+        // Where standard error fails too, there is nobody left to tell.
+        let _ = write_fault(fault, &mut sink);
     }
+    ExitCode::from(exit_status(&answer))
 }
 
 /// Serves the words that the program was started with.
-fn serve(rt: &HostRuntime) -> Result<u8, Fault> {
+fn serve(rt: &HostRuntime) -> Result<PlainEnd, Fault> {
     let words = words(rt)?;
     let mut files = DiskFiles::make(rt);
     let mut sink = OutSink::make(rt.stdout());
-    match plain(rt.alloc(), words.as_slice(), &mut files, &mut sink)? {
-        PlainEnd::Sched { status, .. } | PlainEnd::Text { status } => Ok(status),
+    plain(rt.alloc(), words.as_slice(), &mut files, &mut sink)
+}
+
+/// The status that the program ends with.
+fn exit_status(answer: &Result<PlainEnd, Fault>) -> u8
+    ensures { result ≡ status_of_answer answer.now }
+{
+    match answer {
+        Ok(PlainEnd::Sched { status, .. }) => *status,
+        Ok(PlainEnd::Text { status }) => *status,
+        Err(fault) => status_of(fault),
     }
 }
 
