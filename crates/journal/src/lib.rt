@@ -1,9 +1,13 @@
 //! The journal of a run: its events, in the order in which they were made.
 #![tactic(auto)]
 
+ghost use Rattle.journal.specs.Counted.{stats_of};
 ghost use Rattle.std.specs.Prelude.{◌≡◌, [], ◌∷◌, ◌++◌, ◌-◌, ◌<◌, ◌≤◌, ◌↔◌, length, Some, slice_get, IsTrue, IfOk};
 
+mod stats;
+
 use pei_types::{Event, OutOfMemory};
+pub use stats::Stats;
 use std::alloc::Global;
 use std::marker::Model;
 
@@ -82,6 +86,17 @@ impl Journal {
         self.events[i as usize]
     }
 
+    /// How many events of each kind it has, counted in one pass.
+    pub fn counts(&self) -> Stats
+        ensures { result ≡ stats_of self.now.events }
+    {
+        let mut stats = Stats::none();
+        for i in 0..self.len() {
+            stats.count(&self.get(i).kind);
+        }
+        stats
+    }
+
     /// All events, the first in front.
     pub fn events(&self) -> &[Event]
         ensures { result.now ≡ self.now.events }
@@ -119,6 +134,8 @@ mod tests {
         assert_eq!(rt; (journal.get(0), journal.get(1)), (first, second));
         assert_eq!(rt; journal.events(), [first, second].as_slice());
         assert!(rt; !journal.is_empty());
+        let counts = journal.counts();
+        assert_eq!(rt; (counts.events, counts.fences, counts.loads), (2, 1, 0));
         Ok(())
     }
 }
