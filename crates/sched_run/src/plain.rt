@@ -107,10 +107,10 @@ impl Plain {
         self.machine
     }
 
-    /// The word at an address in bytes, as it is now.
+    /// The word at an address in bytes, as it is now. The conditions are that it is a multiple of 8 and in memory.
     pub fn peek(&self, addr: u64) -> u64
         requires aligned { addr % 8 ≡ 0 }
-        requires inside { addr < 8 * length self.now.words }
+        requires inside { addr < 64 * self.now.machine.blocks }
         ensures { result ≡ slice_index self.now.words (addr / 8) }
     {
         self.words[(addr / 8) as usize]

@@ -1,0 +1,5 @@
+mod Loops
+mod ReportLines
+mod StatisticsLines
+mod FlatReport
+mod Parts
