@@ -1,7 +1,6 @@
 pub mod Digits
 pub mod AskedWords
-pub mod Entries
-pub mod ReportLines
+pub mod Loaded
 pub mod Statuses
 pub mod WritingOn
 pub mod Served

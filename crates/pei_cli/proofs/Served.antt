@@ -1,69 +1,68 @@
 -- A run and its report, as the answer of a command.
-use Rattle.std.proofs.Common.{◌≡◌, ℕ, List, [], ◌∷◌, ◌++◌, flat_map, if◌then◌else◌, codes, decimal, Option, Ok, Err, sym, ◌∙◌, ap, subst}
-use Rattle.std.proofs.lemmas.List.{append-nil}
+use Rattle.std.proofs.Common.{◌≡◌, ℕ, ◌*◌, ◌<◌, List, Option, Ok, Err, All, None, refl, sym, ◌∙◌, ap, subst}
 use Rattle.pei_types.specs.declared.events.Event.{Event}
 use Rattle.pei_types.specs.declared.machines.MachineSpec.{MachineSpec}
-use Rattle.pei_types.specs.Coherence.{cores_of}
 use Rattle.pei_types.specs.Ends.{status_of}
-use Rattle.pei_types.specs.Image.{IsImageOf}
+use Rattle.pei_types.specs.FlatMemory.{flat_word}
+use Rattle.pei_types.specs.Image.{load_refusal}
 use Rattle.pei_types.specs.Program.{Listing, Contents}
-use Rattle.pei_types.specs.Texts.{line, core_lines, ask_lines, stat_lines, report_text}
+use Rattle.pei_types.specs.Schedule.{Run}
+use Rattle.pei_types.specs.Texts.{report_text}
 use Rattle.journal.specs.Recorded.{Recorded}
 use Rattle.pei_io.specs.declared.files.Failed.{Failed}
 use Rattle.pei_io.specs.Outside.{Writes}
+use Rattle.pei_loader.specs.Faults.{IsLoadRefusal}
+use Rattle.pei_loader.specs.declared.faults.LoadFault.{LoadFault}
+use Rattle.pei_loader.specs.declared.faults.LoadFault.TheVariants as load
+use Rattle.report.specs.Shown.{HasWords, HoldsFlat}
 use Rattle.sched_run.specs.Scheduled.{IsEndOf, run_of}
 use Rattle.sched_run.specs.SixLaws.{SixLaws}
 use Rattle.sched_run.specs.declared.schedule.SchedEnd.{SchedEnd}
+use Rattle.pei_cli.specs.FaultLines.{fault_of_loading}
 use Rattle.pei_cli.specs.Jobs.{Job}
 use Rattle.pei_cli.specs.Machines.{IsBuiltIn}
-use Rattle.pei_cli.specs.Serving.{IsBare, RunsJob, run_of_job}
+use Rattle.pei_cli.specs.Serving.{Begins, RunsJob, run_of_job}
 use Rattle.pei_cli.specs.declared.ends.PlainEnd.TheVariants as ends
 use Rattle.pei_cli.specs.declared.faults.Fault.TheVariants as fault
-
--- the report of a bare program has the lines of its cores, and its status
-bare_report : (p : Listing) (m : MachineSpec) (image : Contents) (journal : List Event) → IsBare p → report_text p m image journal ≡ flat_map (core_lines journal) (cores_of m) ++ line (codes "status" ∷ decimal (status_of m journal) ∷ [])
-bare_report p m image journal bare =
-    let cores = flat_map (core_lines journal) (cores_of m)
-    in let last = line (codes "status" ∷ decimal (status_of m journal) ∷ [])
-    in ap (λ qs. cores ++ flat_map (ask_lines image journal) qs ++ (if p.statistics then stat_lines journal else []) ++ last) bare.asks
-    ∙ ap (λ b. cores ++ [] ++ (if b then stat_lines journal else []) ++ last) bare.statistics
-    ∙ ap (λ xs. xs ++ last) (append-nil (cores ++ []) ∙ append-nil cores)
+use Rattle.pei_cli.proofs.Loaded.{loaded_asks}
 
 -- what is known when the report is written
-pub record Ran (job : Job) (p : Listing) (m : MachineSpec) (image : Contents) (v : SchedEnd) (status : ℕ) (journal : Recorded) (text : List ℕ) : Type 0 where
-  pub bare : IsBare p
-  pub machine : IsBuiltIn job.cores m
-  pub loaded : IsImageOf p m image
+pub record Ran (job : Job) (p : Listing) (m : MachineSpec) (image : Contents) (v : SchedEnd) (status : ℕ) : Type 0 where
+  pub begins : Begins job p m image
   pub end : IsEndOf m image (run_of p m image job.policy job.turns) v
   pub laws : SixLaws p m image v.fabric.journal
-  pub events : journal.events ≡ v.fabric.journal
-  pub told : status ≡ status_of m journal.events
-  pub spelled : text ≡ flat_map (core_lines journal.events) (cores_of m) ++ line (codes "status" ∷ decimal status ∷ [])
+  pub told : status ≡ status_of m v.fabric.journal
 
-report_is : (job : Job) (p : Listing) (m : MachineSpec) (image : Contents) (v : SchedEnd) (status : ℕ) (journal : Recorded) (text : List ℕ) → Ran job p m image v status journal text → text ≡ report_text p m image (run_of_job job p m image).journal
-report_is job p m image v status journal text ran =
-    let r = run_of_job job p m image
-    in let same : journal.events ≡ r.journal = ran.events ∙ ran.end.journal
-    in ran.spelled
-    ∙ ap (λ n. flat_map (core_lines journal.events) (cores_of m) ++ line (codes "status" ∷ decimal n ∷ [])) ran.told
-    ∙ ap (λ (js : List Event). flat_map (core_lines js) (cores_of m) ++ line (codes "status" ∷ decimal (status_of m js) ∷ [])) same
-    ∙ sym (bare_report p m image r.journal ran.bare)
+-- the asked words are in the memory of the machine at the end
+pub asks_at_end : (p : Listing) (m : MachineSpec) (image : Contents) (r : Run) (v : SchedEnd) → load_refusal p m ≡ None → IsEndOf m image r v → All (HasWords (64 * v.fabric.machine.blocks)) p.asks
+asks_at_end p m image r v whole end = subst (λ (x : MachineSpec). All (HasWords (64 * x.blocks)) p.asks) (sym end.machine) (loaded_asks p m whole)
 
-pub served : (job : Job) (p : Listing) (m : MachineSpec) (image : Contents) (v : SchedEnd) (status : ℕ) (journal : Recorded) (text : List ℕ) (before now : Option (List ℕ)) (faults faults_now : ℕ) → Ran job p m image v status journal text → Writes text before now faults faults_now (Ok tt) → RunsJob job p before now faults faults_now (Ok (ends.Sched status journal v.cores v.turns))
-served job p m image v status journal text before now faults faults_now ran written =
+-- its memory is flat memory
+pub flat_at_end : (m : MachineSpec) (image : Contents) (r : Run) (v : SchedEnd) → IsEndOf m image r v → HoldsFlat image v.fabric
+flat_at_end m image r v end =
+    λ addr aligned inside.
+    end.memory addr aligned (subst (λ (x : MachineSpec). addr < 64 * x.blocks) end.machine inside)
+    ∙ ap (λ (js : List Event). flat_word image js addr) (sym end.journal)
+
+pub served : (job : Job) (p : Listing) (m : MachineSpec) (image : Contents) (v : SchedEnd) (status : ℕ) (journal : Recorded) (before now : Option (List ℕ)) (faults faults_now : ℕ) → Ran job p m image v status → journal.events ≡ v.fabric.journal → Writes (report_text p m image v.fabric.journal) before now faults faults_now (Ok tt) → RunsJob job p before now faults faults_now (Ok (ends.Sched status journal v.cores v.turns))
+served job p m image v status journal before now faults faults_now ran events written =
     let r = run_of_job job p m image
-    in let same : journal.events ≡ r.journal = ran.events ∙ ran.end.journal
-    in let whole = subst (λ (t : List ℕ). Writes t before now faults faults_now (Ok tt)) (report_is job p m image v status journal text ran) written
+    in let whole = subst (λ (js : List Event). Writes (report_text p m image js) before now faults faults_now (Ok tt)) ran.end.journal written
     in (
       m,
       image,
-      record { machine = ran.machine; loaded = ran.loaded },
-      (ran.told ∙ ap (status_of m) same, same, ran.end.cores, ran.end.turns),
+      ran.begins,
+      (ran.told ∙ ap (status_of m) ran.end.journal, events ∙ ran.end.journal, ran.end.cores, ran.end.turns),
       subst (λ (js : List Event). SixLaws p m image js) ran.end.journal ran.laws,
       whole.0,
     )
 
-pub served_front : (job : Job) (p : Listing) (m : MachineSpec) (image : Contents) (v : SchedEnd) (status : ℕ) (journal : Recorded) (text : List ℕ) (before now : Option (List ℕ)) (faults faults_now : ℕ) (failed : Failed) → Ran job p m image v status journal text → Writes text before now faults faults_now (Err failed) → RunsJob job p before now faults faults_now (Err fault.WriteFault)
-served_front job p m image v status journal text before now faults faults_now failed ran written =
-    let front = subst (λ (t : List ℕ). Writes t before now faults faults_now (Err failed)) (report_is job p m image v status journal text ran) written
-    in (m, image, record { machine = ran.machine; loaded = ran.loaded }, front.0, front.1)
+pub served_front : (job : Job) (p : Listing) (m : MachineSpec) (image : Contents) (v : SchedEnd) (status : ℕ) (before now : Option (List ℕ)) (faults faults_now : ℕ) (failed : Failed) → Ran job p m image v status → Writes (report_text p m image v.fabric.journal) before now faults faults_now (Err failed) → RunsJob job p before now faults faults_now (Err fault.WriteFault)
+served_front job p m image v status before now faults faults_now failed ran written =
+    let front = subst (λ (js : List Event). Writes (report_text p m image js) before now faults faults_now (Err failed)) ran.end.journal written
+    in (m, image, ran.begins, front.0, front.1)
+
+-- its program was not loaded
+pub refused : (job : Job) (p : Listing) (m : MachineSpec) (f : LoadFault) (before : Option (List ℕ)) (faults : ℕ) → IsBuiltIn job.cores m → IsLoadRefusal p m f → RunsJob job p before before faults faults (Err (fault_of_loading f))
+refused job p m load.OutOfMemory before faults built told = refl
+refused job p m f before faults built told = (m, built, told, refl)

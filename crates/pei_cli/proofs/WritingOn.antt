@@ -1,5 +1,5 @@
--- One more piece of a text that is being written.
-use Rattle.std.proofs.Common.{◌≡◌, ℕ, suc, ◌+◌, ◌<◌, List, [], ◌∷◌, ◌++◌, length, codes, take, drop, get_or, flat_map, Option, Result, Ok, Err, IsErr, Bor, refl, sym, ◌∙◌, ap, subst, arith}
+-- Pieces of a text that are written one behind another.
+use Rattle.std.proofs.Common.{◌≡◌, ℕ, suc, ◌+◌, ◌<◌, List, [], ◌∷◌, ◌++◌, length, codes, take, drop, get_or, flat_map, Option, Result, Ok, Err, IsErr, Bor, sym, ◌∙◌, ap, subst, arith}
 use Rattle.std.proofs.lemmas.List.{append_assoc, take-append-drop}
 use Rattle.std.proofs.lemmas.Grind.{flat_map-append}
 use Rattle.std.proofs.Math.Seq.{drop-cons}
@@ -7,33 +7,13 @@ use Rattle.pei_io.specs.declared.files.Failed.{Failed}
 use Rattle.pei_io.specs.Outside.{Writes}
 use Rattle.pei_io.specs.Laws.{WritesJoin}
 use Rattle.pei_types.specs.Texts.{line}
-use Rattle.pei_cli.specs.Writing.{FrontWritten}
-
-regrouped : (front line behind rest text : List ℕ) → line ++ behind ≡ rest → front ++ rest ≡ text → (front ++ line) ++ behind ≡ text
-regrouped front line behind rest text split whole = append_assoc front line behind ∙ ap (λ xs. front ++ xs) split ∙ whole
-
--- the piece was written
-pub went_on : WritesJoin → (text rest line behind : List ℕ) (before mid now : Option (List ℕ)) (faults faults_mid faults_now : ℕ) → FrontWritten text rest before mid faults faults_mid → line ++ behind ≡ rest → Writes line mid now faults_mid faults_now (Ok tt) → FrontWritten text behind before now faults faults_now
-went_on laws text rest line behind before mid now faults faults_mid faults_now so_far split written =
-    record {
-      front = so_far.front ++ line;
-      whole = regrouped so_far.front line behind rest text split so_far.whole;
-      written = laws.joins so_far.front line before mid now faults faults_mid faults_now tt (Ok tt) so_far.written written;
-    }
-
--- its write failed
-pub stopped : WritesJoin → (text rest line behind : List ℕ) (before mid now : Option (List ℕ)) (faults faults_mid faults_now : ℕ) (failed : Failed) → FrontWritten text rest before mid faults faults_mid → line ++ behind ≡ rest → Writes line mid now faults_mid faults_now (Err failed) → Writes text before now faults faults_now (Err failed)
-stopped laws text rest line behind before mid now faults faults_mid faults_now failed so_far split written =
-    let joined = laws.joins so_far.front line before mid now faults faults_mid faults_now tt (Err failed) so_far.written written
-    in subst (λ (t : List ℕ). Writes t before now faults faults_now (Err failed)) (regrouped so_far.front line behind rest text split so_far.whole)
-    (laws.stops (so_far.front ++ line) behind before now faults faults_now failed joined)
 
 -- ---- pieces of a list
 
 abbrev pub joined : List (Bor (List ℕ)) → List ℕ
 joined pieces = flat_map (λ p. p.now) pieces
 
-pub pieces_left : (pieces : List (Bor (List ℕ))) (i : ℕ) (d : Bor (List ℕ)) → i < length pieces → joined (take i pieces) ++ (get_or pieces i d).now ++ joined (drop (i + 1) pieces) ≡ joined pieces
+pieces_left : (pieces : List (Bor (List ℕ))) (i : ℕ) (d : Bor (List ℕ)) → i < length pieces → joined (take i pieces) ++ (get_or pieces i d).now ++ joined (drop (i + 1) pieces) ≡ joined pieces
 pieces_left pieces i d within =
     let p = get_or pieces i d
     in let rest : drop i pieces ≡ p ∷ drop (i + 1) pieces = drop-cons pieces i d within ∙ ap (λ k. p ∷ drop k pieces) (one_more i)
@@ -48,9 +28,10 @@ pieces_left pieces i d within =
 pub pieces_stopped : WritesJoin → (pieces : List (Bor (List ℕ))) (i : ℕ) (d : Bor (List ℕ)) (before mid now : Option (List ℕ)) (faults faults_mid faults_now : ℕ) (failed : Failed) → i < length pieces → Writes (joined (take i pieces)) before mid faults faults_mid (Ok tt) → Writes (get_or pieces i d).now mid now faults_mid faults_now (Err failed) → Writes (joined pieces) before now faults faults_now (Err failed)
 pieces_stopped laws pieces i d before mid now faults faults_mid faults_now failed within so_far written =
     let p = get_or pieces i d
-    in stopped laws (joined pieces) (p.now ++ joined (drop (i + 1) pieces)) p.now (joined (drop (i + 1) pieces)) before mid now faults faults_mid faults_now failed
-    (record { front = joined (take i pieces); whole = sym (append_assoc (joined (take i pieces)) p.now (joined (drop (i + 1) pieces))) ∙ pieces_left pieces i d within; written = so_far })
-    refl written
+    in let behind = joined (drop (i + 1) pieces)
+    in subst (λ (t : List ℕ). Writes t before now faults faults_now (Err failed))
+    (sym (append_assoc (joined (take i pieces)) p.now behind) ∙ pieces_left pieces i d within)
+    (laws.joins (joined (take i pieces)) (p.now ++ behind) before mid now faults faults_mid faults_now tt (Err failed) so_far (laws.stops p.now behind mid now faults_mid faults_now failed written))
 
 -- how a failure is told does not matter
 pub any_failure : (text : List ℕ) (before now : Option (List ℕ)) (faults faults_now : ℕ) (failed : Failed) (result : Result (Unit {0}) Failed) → IsErr result → Writes text before now faults faults_now (Err failed) → Writes text before now faults faults_now result
@@ -64,3 +45,7 @@ placed_line a b k =
     (sym (append_assoc (a ++ codes ":" ++ b) (codes " " ++ k) (codes "\n")
     ∙ append_assoc (a ++ codes ":") b (codes " " ++ (k ++ codes "\n"))
     ∙ append_assoc a (codes ":") (b ++ (codes " " ++ (k ++ codes "\n")))))
+
+-- the line of a fault of loading
+pub load_line_joined : (kind number : List ℕ) → codes "load bad " ++ (kind ++ (codes " " ++ (number ++ codes "\n"))) ≡ line (codes "load" ∷ codes "bad" ∷ kind ∷ number ∷ [])
+load_line_joined kind number = ap (λ t. codes "load bad " ++ t) (sym (append_assoc kind (codes " " ++ number) (codes "\n")))

@@ -4,11 +4,16 @@ use Rattle.pei_asm.specs.declared.faults.AsmKind.{AsmKind}
 use Rattle.pei_asm.specs.declared.faults.AsmKind.TheVariants as kind
 use Rattle.pei_io.specs.declared.files.Which.{Which}
 use Rattle.pei_io.specs.declared.files.Which.TheVariants as which
+use Rattle.pei_loader.specs.declared.faults.LoadFault.{LoadFault}
+use Rattle.pei_loader.specs.declared.faults.LoadFault.TheVariants as load
 use Rattle.pei_types.specs.Texts.{line}
 use Rattle.pei_cli.specs.declared.faults.Fault.{Fault}
 use Rattle.pei_cli.specs.declared.faults.Fault.TheVariants as fault
-use Rattle.pei_cli.specs.declared.loading.LoadFault.{LoadFault}
-use Rattle.pei_cli.specs.declared.loading.LoadFault.TheVariants as load
+
+-- the fault of a command whose program was not loaded: want of memory is told as such
+abbrev pub fault_of_loading : LoadFault → Fault
+fault_of_loading load.OutOfMemory = fault.OutOfMemory
+fault_of_loading f = fault.LoadBad f
 
 abbrev pub status_of_fault : Fault → ℕ
 status_of_fault fault.Usage = 2
@@ -27,15 +32,23 @@ which_word which.Program = codes "program"
 which_word which.Machine = codes "machine"
 which_word which.Trace = codes "trace"
 
-abbrev pub load_words : LoadFault → List (List ℕ)
-load_words (load.NoEntry core) = codes "NoEntry" ∷ decimal core ∷ []
-load_words load.OutOfMemory = codes "OutOfMemory" ∷ []
+-- a kind of fault of loading, with an address or a core
+abbrev pub load_line : List ℕ → ℕ → List ℕ
+load_line kind number = line (codes "load" ∷ codes "bad" ∷ kind ∷ decimal number ∷ [])
+
+abbrev pub load_fault_line : LoadFault → List ℕ
+load_fault_line (load.DataMisaligned addr) = load_line (codes "DataMisaligned") addr
+load_fault_line (load.DataOutOfRange addr) = load_line (codes "DataOutOfRange") addr
+load_fault_line (load.DataOverlap addr) = load_line (codes "DataOverlap") addr
+load_fault_line (load.ShowOutOfRange addr) = load_line (codes "ShowOutOfRange") addr
+load_fault_line (load.NoEntry core) = load_line (codes "NoEntry") core
+load_fault_line load.OutOfMemory = codes "load bad OutOfMemory\n"
 
 abbrev pub fault_line : Fault → List ℕ
 fault_line fault.Usage = codes "usage: peisim asm or sched or run or check or gen\n"
 fault_line (fault.ProgramBad f) =
     line (codes "program" ∷ codes "bad" ∷ (decimal f.line ++ codes ":" ++ decimal f.column) ∷ asm_word f.kind ∷ [])
-fault_line (fault.LoadBad f) = line (codes "load" ∷ codes "bad" ∷ load_words f)
+fault_line (fault.LoadBad f) = load_fault_line f
 fault_line (fault.ReadFault w) = line (codes "read" ∷ codes "fault" ∷ which_word w ∷ [])
 fault_line fault.WriteFault = codes "write fault\n"
 fault_line fault.OutOfMemory = codes "out of memory\n"

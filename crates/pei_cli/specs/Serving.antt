@@ -1,8 +1,8 @@
 -- What a command comes to.
-use Rattle.std.specs.Prelude.{◌≡◌, ⊤, ◌⊎◌, ℕ, ◌≤◌, false, List, [], length, take, Option, Some, IfSome, Result, Ok, Err}
+use Rattle.std.specs.Prelude.{◌≡◌, ⊤, ◌⊎◌, ℕ, ◌≤◌, List, length, take, Option, None, IfSome, Result, Ok, Err}
 use Rattle.pei_types.specs.declared.machines.MachineSpec.{MachineSpec}
 use Rattle.pei_types.specs.Ends.{ends_of, status_of}
-use Rattle.pei_types.specs.Image.{IsImageOf, NoEntry, load_refusal}
+use Rattle.pei_types.specs.Image.{IsImageOf, load_refusal}
 use Rattle.pei_types.specs.Program.{Listing, Contents}
 use Rattle.pei_types.specs.Schedule.{Run}
 use Rattle.pei_types.specs.Texts.{report_text}
@@ -10,6 +10,9 @@ use Rattle.pei_io.specs.Outside.{Rose, Added}
 use Rattle.pei_io.specs.declared.files.Which.TheVariants as which
 use Rattle.pei_asm.specs.declared.faults.AsmKind.TheVariants as kind
 use Rattle.pei_asm.specs.Form.{IsFormOf}
+use Rattle.pei_loader.specs.Faults.{IsLoadRefusal}
+use Rattle.pei_loader.specs.declared.faults.LoadFault.{LoadFault}
+use Rattle.pei_loader.specs.declared.faults.LoadFault.TheVariants as load
 use Rattle.sched_run.specs.Scheduled.{run_of}
 use Rattle.sched_run.specs.SixLaws.{SixLaws}
 use Rattle.workload_gen.specs.Generated.{generated}
@@ -19,7 +22,6 @@ use Rattle.pei_cli.specs.declared.ends.PlainEnd.{PlainEnd}
 use Rattle.pei_cli.specs.declared.ends.PlainEnd.TheVariants as ends
 use Rattle.pei_cli.specs.declared.faults.Fault.{Fault}
 use Rattle.pei_cli.specs.declared.faults.Fault.TheVariants as fault
-use Rattle.pei_cli.specs.declared.loading.LoadFault.TheVariants as load
 
 -- ---- reading the program
 
@@ -43,16 +45,16 @@ ReadsProgram held taken faults faults_now (Err _) = ⊥
 
 -- ---- running it
 
--- it has no initial words, no asks and no statistics
-pub record IsBare (p : Listing) : Type 0 where
-  pub lines : p.lines ≡ []
-  pub asks : p.asks ≡ []
-  pub statistics : p.statistics ≡ false
-
--- the machine of the job, with the program loaded
+-- the machine of the job, with the program loaded, of which nothing was refused
 pub record Begins (job : Job) (p : Listing) (m : MachineSpec) (image : Contents) : Type 0 where
   pub machine : IsBuiltIn job.cores m
+  pub whole : load_refusal p m ≡ None
   pub loaded : IsImageOf p m image
+
+-- The fault is the first of loading this program. Want of memory is told as such, and never as a fault of loading.
+abbrev pub IsFirstLoadFault : Listing → MachineSpec → LoadFault → Type 0
+IsFirstLoadFault p m load.OutOfMemory = ⊥
+IsFirstLoadFault p m f = IsLoadRefusal p m f
 
 -- the run of the job
 abbrev pub run_of_job : Job → Listing → MachineSpec → Contents → Run
@@ -78,8 +80,8 @@ RunsJob job p before now faults faults_now (Ok end) =
     × SixLaws p m image (run_of_job job p m image).journal × Reports p m image (run_of_job job p m image) before now
 RunsJob job p before now faults faults_now (Err fault.WriteFault) =
     (m : MachineSpec) × (image : Contents) × Begins job p m image × ReportsFront p m image (run_of_job job p m image) before now × Rose faults faults_now
-RunsJob job p before now faults faults_now (Err (fault.LoadBad (load.NoEntry core))) =
-    (m : MachineSpec) × IsBuiltIn job.cores m × (load_refusal p m ≡ Some (NoEntry core)) × (now ≡ before)
+RunsJob job p before now faults faults_now (Err (fault.LoadBad f)) =
+    (m : MachineSpec) × IsBuiltIn job.cores m × IsFirstLoadFault p m f × (now ≡ before)
 RunsJob job p before now faults faults_now (Err fault.OutOfMemory) = now ≡ before
 RunsJob job p before now faults faults_now (Err _) = ⊥
 

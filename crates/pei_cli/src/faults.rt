@@ -2,13 +2,13 @@
 
 ghost use Rattle.std.specs.Prelude.{◌≡◌};
 ghost use Rattle.pei_io.specs.Outside.{Writes};
-ghost use Rattle.pei_cli.specs.FaultLines.{status_of_fault, fault_line, asm_word, which_word};
+ghost use Rattle.pei_cli.specs.FaultLines.{fault_of_loading, status_of_fault, fault_line, load_line, asm_word, which_word};
 
-use crate::loading::LoadFault;
 use crate::writing::write_pieces;
 use itoa::Buffer;
 use pei_asm::{AsmFault, AsmKind};
 use pei_io::{Failed, Sink, Which};
+use pei_loader::LoadFault;
 
 /// Why a command was refused.
 #[derive(Clone, Copy, PartialEq, Eq, Debug)]
@@ -25,6 +25,16 @@ pub enum Fault {
     WriteFault,
     /// Memory ran out. This says nothing of the inputs.
     OutOfMemory,
+}
+
+/// The fault of a command whose program was not loaded. Want of memory is told as such.
+pub(crate) fn load_fault(fault: LoadFault) -> Fault
+    ensures { result ≡ fault_of_loading fault }
+{
+    match fault {
+        LoadFault::OutOfMemory => Fault::OutOfMemory,
+        _ => Fault::LoadBad(fault),
+    }
 }
 
 /// The status with which the program ends at a fault.
@@ -94,15 +104,30 @@ fn write_load_bad<K: Sink>(fault: &LoadFault, sink: &mut K) -> Result<(), Failed
     ensures { Writes (fault_line (Fault.LoadBad fault.now)) (K.written sink.old) (K.written sink.new) (K.faults sink.old) (K.faults sink.new) result }
 {
     match fault {
-        LoadFault::NoEntry { core } => {
-            let mut buffer = Buffer::new();
-            write_pieces(
-                sink,
-                &[b"load bad NoEntry ", buffer.format(*core).as_bytes(), b"\n"],
-            )
-        }
+        LoadFault::DataMisaligned { addr } => write_load_fault(b"DataMisaligned", *addr, sink),
+        LoadFault::DataOutOfRange { addr } => write_load_fault(b"DataOutOfRange", *addr, sink),
+        LoadFault::DataOverlap { addr } => write_load_fault(b"DataOverlap", *addr, sink),
+        LoadFault::ShowOutOfRange { addr } => write_load_fault(b"ShowOutOfRange", *addr, sink),
+        LoadFault::NoEntry { core } => write_load_fault(b"NoEntry", u64::from(*core), sink),
         LoadFault::OutOfMemory => write_pieces(sink, &[b"load bad OutOfMemory\n"]),
     }
+}
+
+/// Writes the line of a fault of loading that has an address or a core.
+fn write_load_fault<K: Sink>(kind: &[u8], number: u64, sink: &mut K) -> Result<(), Failed>
+    ensures { Writes (load_line kind.now number) (K.written sink.old) (K.written sink.new) (K.faults sink.old) (K.faults sink.new) result }
+{
+    let mut buffer = Buffer::new();
+    write_pieces(
+        sink,
+        &[
+            b"load bad ",
+            kind,
+            b" ",
+            buffer.format(number).as_bytes(),
+            b"\n",
+        ],
+    )
 }
 
 /// The word for one of a command's files.

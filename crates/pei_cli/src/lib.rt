@@ -3,9 +3,7 @@
 
 mod ends;
 mod faults;
-mod loading;
 mod machines;
-mod report;
 mod serving;
 mod status;
 mod words;
@@ -13,7 +11,7 @@ mod writing;
 
 pub use ends::PlainEnd;
 pub use faults::{Fault, status_of, write_fault};
-pub use loading::LoadFault;
+pub use pei_loader::LoadFault;
 pub use serving::plain;
 
 #[cfg(test)]

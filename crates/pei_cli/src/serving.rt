@@ -1,25 +1,24 @@
 //! The top call for commands without threads.
 
-ghost use Rattle.std.specs.Prelude.{◌≡◌, ◌≢◌, ◌≤◌, ◌↔◌, ℕ, List, None, Some, Err, IfSome, IfOk, IfErr};
+ghost use Rattle.std.specs.Prelude.{◌≡◌, ◌≢◌, ◌≤◌, ◌↔◌, ℕ, List, None, Some, Err, IfSome, IfErr};
 ghost use Rattle.pei_io.specs.Outside.{LeavesOthers};
 ghost use Rattle.pei_io.specs.declared.files.Which.{Which};
 ghost use Rattle.sched_run.specs.Choosing.{HasActorsOf};
 ghost use Rattle.pei_types.specs.declared.machines.MachineSpec.{MachineSpec};
 ghost use Rattle.pei_cli.specs.Asking.{runs_as};
 ghost use Rattle.pei_cli.specs.Jobs.{Job, Runs, Generates, asked_of};
-ghost use Rattle.pei_cli.specs.Serving.{IsBare, ReadsProgram, RunsJob, Serves, WritesGenerated};
+ghost use Rattle.pei_cli.specs.Serving.{ReadsProgram, RunsJob, Serves, WritesGenerated};
 
 use crate::ends::PlainEnd;
-use crate::faults::Fault;
-use crate::loading::{LoadFault, load};
+use crate::faults::{Fault, load_fault};
 use crate::machines::built_in;
-use crate::report::report;
 use crate::status::run_status;
 use crate::words::{Asked, Run, read_words};
-use crate::writing::write_lines;
 use pei_asm::{AsmFault, AsmKind, assemble};
 use pei_io::{Failed, Files, ReadEnd, Sink, Text, Which, read_limited};
+use pei_loader::load;
 use pei_types::Program;
+use report::write_report;
 use sched_run::run_schedule;
 use std::alloc::Global;
 use workload_gen::generate;
@@ -97,7 +96,6 @@ fn run_file<F: Files, K: Sink>(
 fn read_program<F: Files>(alloc: Global, files: &mut F, name: &str) -> Result<Program, Fault>
     requires { F.name files.old Which.Program ≡ None }
     ensures reads { ReadsProgram (F.held files.old Which.Program name.now) (F.taken files.new Which.Program) (F.faults files.old Which.Program) (F.faults files.new Which.Program) result }
-    ensures bare { IfOk result IsBare }
     ensures named { result ≢ Err Fault.OutOfMemory → F.name files.new Which.Program ≡ Some name.now }
     ensures rising { F.faults files.old Which.Program ≤ F.faults files.new Which.Program }
     ensures others { LeavesOthers F.held F.left F.name F.taken F.faults Which.Program files.old files.new }
@@ -132,14 +130,14 @@ fn not_built() -> AsmFault
     }
 }
 
-/// Runs a program as the words ask, and writes the report.
-fn run_program<K: Sink>(
+/// Runs a program as the words ask, and writes the report. The report takes no memory, so want of memory is told before
+/// the first turn.
+pub(crate) fn run_program<K: Sink>(
     alloc: Global,
     program: &Program,
     run: &Run,
     sink: &mut K,
 ) -> Result<PlainEnd, Fault>
-    requires bare { IsBare program.now }
     requires cores { (1 ≤ run.now.cores) × (run.now.cores ≤ 8) }
     requires actors { (m : MachineSpec) → HasActorsOf m run.now.policy }
     ensures runs { (name : List ℕ) → RunsJob (record { program = name; cores = run.now.cores; policy = run.now.policy; turns = run.now.turns }) program.now (K.written sink.old) (K.written sink.new) (K.faults sink.old) (K.faults sink.new) result }
@@ -149,23 +147,16 @@ fn run_program<K: Sink>(
     let machine = built_in(run.cores);
     let image = match load(alloc, program, &machine) {
         Ok(image) => image,
-        Err(LoadFault::OutOfMemory) => return Err(Fault::OutOfMemory),
-        Err(LoadFault::NoEntry { core }) => {
-            return Err(Fault::LoadBad(LoadFault::NoEntry { core }));
-        }
+        Err(fault) => return Err(load_fault(fault)),
     };
     let Ok(end) = run_schedule(alloc, program, &machine, &image, &run.policy, run.turns) else {
         return Err(Fault::OutOfMemory);
     };
-    let journal = end.fabric.into_journal();
-    let status = run_status(&machine, &journal, &end.cores);
-    let Ok(text) = report(alloc, &journal, &machine, &end.cores, status) else {
-        return Err(Fault::OutOfMemory);
-    };
-    match write_lines(sink, text.as_slice()) {
+    let status = run_status(&machine, end.fabric.journal(), &end.cores);
+    match write_report(program, &machine, &end.fabric, &end.cores, status, sink) {
         Ok(()) => Ok(PlainEnd::Sched {
             status,
-            journal,
+            journal: end.fabric.into_journal(),
             cores: end.cores,
             turns: end.turns,
         }),

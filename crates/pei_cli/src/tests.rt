@@ -2,12 +2,15 @@
 //!
 //! The rows of `runs_are_reported` take each step that can want memory, with ample memory.
 
-ghost use Rattle.std.specs.Prelude.{◌≤◌};
+ghost use Rattle.std.specs.Prelude.{◌<◌, ◌≤◌, length};
 
 use super::*;
-use pei_asm::{AsmFault, AsmKind};
+use crate::serving::run_program;
+use crate::words::Run;
+use pei_asm::{AsmFault, AsmKind, assemble};
 use pei_io::{MemFiles, MemSink, Text, Which};
-use pei_types::OutOfMemory;
+use pei_types::{Ask, OutOfMemory, Program};
+use sched_run::Policy;
 use std::alloc::Global;
 use std::test::Fail;
 
@@ -236,6 +239,26 @@ fn faults_have_a_status_and_a_line(rt: HostRuntime) -> Result<(), Fail> {
             3,
             b"load bad NoEntry 1\n".as_slice(),
         ),
+        (
+            Fault::LoadBad(LoadFault::DataMisaligned { addr: 4 }),
+            3,
+            b"load bad DataMisaligned 4\n".as_slice(),
+        ),
+        (
+            Fault::LoadBad(LoadFault::DataOutOfRange { addr: 262144 }),
+            3,
+            b"load bad DataOutOfRange 262144\n".as_slice(),
+        ),
+        (
+            Fault::LoadBad(LoadFault::DataOverlap { addr: 8 }),
+            3,
+            b"load bad DataOverlap 8\n".as_slice(),
+        ),
+        (
+            Fault::LoadBad(LoadFault::ShowOutOfRange { addr: u64::MAX }),
+            3,
+            b"load bad ShowOutOfRange 18446744073709551615\n".as_slice(),
+        ),
         (READ_FAULT, 8, b"read fault program\n".as_slice()),
         (Fault::WriteFault, 9, b"write fault\n".as_slice()),
         (Fault::OutOfMemory, 10, b"out of memory\n".as_slice()),
@@ -305,6 +328,93 @@ fn writes_fail_where_asked(rt: HostRuntime) -> Result<(), Fail> {
         };
         assert_eq!(rt; served.result.err(), want, "write {fail}");
         assert_eq!(rt; served.sink.bytes(), &RAISED[..written], "write {fail}");
+    }
+    Ok(())
+}
+
+/// `RAISE` with a line of initial words and an ask, and with statistics.
+fn asking(alloc: Global, addr: u64, words: &[u64], ask: Ask) -> Result<Program, Fail>
+    requires { 0 < length words.now }
+{
+    let Ok(mut program) = assemble(alloc, RAISE) else {
+        return Err(Fail::from("the program is of the form"));
+    };
+    if program.lines() > 0 || program.push_words(addr, words).is_err() {
+        return Err(Fail::from("there is memory for the words"));
+    }
+    if program.push_ask(ask).is_err() {
+        return Err(Fail::from("there is memory for the ask"));
+    }
+    program.set_stats();
+    Ok(program)
+}
+
+/// The statistics of `RAISE` on one core.
+const RAISED_STATS: &str = "stat events 11\nstat loads 1\nstat stores 0\nstat issues 1\n\
+stat host 1\nstat memory 0\nstat reads 1\nstat seals 0\nstat acts 1\nstat fences 1\nstat races 0\n\
+stat inv 0\nstat down 0\nstat evict1 0\nstat clean 0\nstat evict2 0\nstat fill 0\nstat grants 0\n\
+stat grante 0\nstat grantm 0\n";
+
+/// The word at 4096 becomes 42, the next one is the largest, and the one behind it is 0: their sum wraps to 41.
+#[test]
+fn asks_and_statistics_are_reported(rt: HostRuntime) -> Result<(), Fail> {
+    let run = Run {
+        cores: 1,
+        policy: Policy::RoundRobin,
+        turns: 1000,
+    };
+    for (ask, lines) in [
+        (
+            Ask::Show {
+                addr: 4096,
+                count: 2,
+            },
+            "mem 4096 42\nmem 4104 18446744073709551615\n",
+        ),
+        (
+            Ask::Sum {
+                addr: 4096,
+                count: 3,
+            },
+            "sum 4096 3 41\n",
+        ),
+        (Ask::Show { addr: 8, count: 0 }, ""),
+    ] {
+        let program = asking(rt.alloc(), 4096, &[41, u64::MAX], ask)?;
+        let mut sink = MemSink::make(rt.alloc(), 4096, 4096, &[])?;
+        let result = run_program(rt.alloc(), &program, &run, &mut sink);
+        assert_eq!(rt; result.err(), None);
+        let want = format!(in rt.alloc();
+            "out 0 42\ncore 0 halt\n{lines}{RAISED_STATS}status 0\n"
+        )?;
+        assert_eq!(rt; sink.bytes(), want.as_bytes());
+    }
+    Ok(())
+}
+
+/// What loading refuses is told, and nothing is written. Memory ends at 262,144.
+#[test]
+fn load_faults_are_told(rt: HostRuntime) -> Result<(), Fail> {
+    let run = Run {
+        cores: 1,
+        policy: Policy::Serial,
+        turns: 1000,
+    };
+    let inside = Ask::Sum { addr: 0, count: 1 };
+    let outside = Ask::Sum {
+        addr: 262_136,
+        count: 2,
+    };
+    for (addr, ask, fault) in [
+        (4, outside, LoadFault::DataMisaligned { addr: 4 }),
+        (262_136, inside, LoadFault::DataOutOfRange { addr: 262_144 }),
+        (0, outside, LoadFault::ShowOutOfRange { addr: 262_136 }),
+    ] {
+        let program = asking(rt.alloc(), addr, &[41, 42], ask)?;
+        let mut sink = MemSink::make(rt.alloc(), 4096, 4096, &[])?;
+        let result = run_program(rt.alloc(), &program, &run, &mut sink);
+        assert_eq!(rt; result.err(), Some(Fault::LoadBad(fault)));
+        assert_eq!(rt; sink.bytes(), b"".as_slice());
     }
     Ok(())
 }

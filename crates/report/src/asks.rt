@@ -4,7 +4,7 @@ ghost use Rattle.std.specs.Prelude.{◌≡◌, ◌*◌, ◌%◌, ◌^◌, ◌<�
 ghost use Rattle.pei_io.specs.Outside.{Writes};
 ghost use Rattle.pei_types.specs.declared.instructions.Ask.{Ask};
 ghost use Rattle.pei_types.specs.Texts.{line, addresses};
-ghost use Rattle.report.specs.Shown.{AreWords, HasWords, word_in, word_line, sum_line, shown_lines};
+ghost use Rattle.report.specs.Shown.{AreWords, HasWords, word_in, word_line, shown_lines};
 
 use crate::lines::Line;
 use pei_io::laws::writes_join;
