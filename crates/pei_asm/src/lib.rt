@@ -1,21 +1,31 @@
-//! The assembler: a program from its text.
+//! The assembler: the program that an assembly text spells, or the text's first fault.
 //!
-//! For now it takes a restricted form, whose instructions are spelled as in the canonical text. A text has at most
-//! 4,096 bytes, and each line ends with a line feed. The first line is `.entry 0, s` or `.entry *, s`, which sets the
-//! entry of core 0 or of all cores to the label `s`; it stands before the first instruction, as `s: `. Each line from
-//! the second on has one of the instructions `li rd, n`, `addi rd, ra, n`, `ld rd, ra, n`, `st rv, ra, n`,
-//! `pinc ra, n`, `out ra`, `pfence` and `halt`, with registers `r0` to `r15` and unsigned decimal numbers below 2^64,
-//! neither with leading zeros. There is at least one instruction.
+//! A text is UTF-8 and has lines. A line has an optional label with a colon, then optionally an instruction or a
+//! directive, and a comment from `#` or `;` on. `specs/Tokens` says what the tokens of a line are, `specs/Mnemonics` has
+//! the one table of mnemonics and directives with their operands, `specs/Spelling` says what program a text spells, and
+//! `specs/Faults` which fault a text has first.
 #![tactic(auto)]
 
 mod assembling;
-mod body;
+mod building;
 mod faults;
+mod items;
+mod labels;
+mod lines;
+mod mnemonics;
+mod numbers;
+mod operands;
 mod reading;
+mod registers;
+mod tokens;
+mod trials;
+mod unknown;
+mod verdicts;
 
 pub use assembling::assemble;
 pub use faults::{AsmFault, AsmKind};
+pub use mnemonics::Mnemonic;
 
-pub mod laws;
+pub mod evidence;
 #[cfg(test)]
 mod tests;

@@ -4,4 +4,3 @@ pub mod Loaded
 pub mod Statuses
 pub mod WritingOn
 pub mod Served
-pub mod NoProgram

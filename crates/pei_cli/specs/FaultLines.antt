@@ -1,5 +1,6 @@
 -- What a refused command ends with: a status, and a line.
 use Rattle.std.specs.Prelude.{ℕ, List, [], ◌∷◌, ◌++◌, codes, decimal}
+use Rattle.pei_asm.specs.declared.faults.AsmFault.{AsmFault}
 use Rattle.pei_asm.specs.declared.faults.AsmKind.{AsmKind}
 use Rattle.pei_asm.specs.declared.faults.AsmKind.TheVariants as kind
 use Rattle.pei_io.specs.declared.files.Which.{Which}
@@ -15,16 +16,34 @@ abbrev pub fault_of_loading : LoadFault → Fault
 fault_of_loading load.OutOfMemory = fault.OutOfMemory
 fault_of_loading f = fault.LoadBad f
 
+-- the fault of a command whose program's text has a fault: want of memory is told as such
+abbrev pub fault_of_kind : AsmKind → AsmFault → Fault
+fault_of_kind kind.OutOfMemory f = fault.OutOfMemory
+fault_of_kind _ f = fault.ProgramBad f
+
+abbrev pub fault_of_text : AsmFault → Fault
+fault_of_text f = fault_of_kind f.kind f
+
 abbrev pub status_of_fault : Fault → ℕ
 status_of_fault fault.Usage = 2
 status_of_fault (fault.ProgramBad f) = 3
 status_of_fault (fault.LoadBad f) = 3
+status_of_fault (fault.InputTooLong w) = 13
 status_of_fault (fault.ReadFault w) = 8
 status_of_fault fault.WriteFault = 9
 status_of_fault fault.OutOfMemory = 10
 
 abbrev pub asm_word : AsmKind → List ℕ
-asm_word kind.NotBuilt = codes "NotBuilt"
+asm_word kind.NotUtf8 = codes "NotUtf8"
+asm_word kind.BadChar = codes "BadChar"
+asm_word kind.DoubleLabel = codes "DoubleLabel"
+asm_word kind.UnknownName = codes "UnknownName"
+asm_word kind.WrongOperands = codes "WrongOperands"
+asm_word kind.NumberTooLarge = codes "NumberTooLarge"
+asm_word kind.RegisterRange = codes "RegisterRange"
+asm_word kind.TooManyInstructions = codes "TooManyInstructions"
+asm_word kind.DoubleEntry = codes "DoubleEntry"
+asm_word kind.UnknownLabel = codes "UnknownLabel"
 asm_word kind.OutOfMemory = codes "OutOfMemory"
 
 abbrev pub which_word : Which → List ℕ
@@ -49,6 +68,7 @@ fault_line fault.Usage = codes "usage: peisim asm or sched or run or check or ge
 fault_line (fault.ProgramBad f) =
     line (codes "program" ∷ codes "bad" ∷ (decimal f.line ++ codes ":" ++ decimal f.column) ∷ asm_word f.kind ∷ [])
 fault_line (fault.LoadBad f) = load_fault_line f
+fault_line (fault.InputTooLong w) = codes "input too long " ++ which_word w ++ codes "\n"
 fault_line (fault.ReadFault w) = line (codes "read" ∷ codes "fault" ∷ which_word w ∷ [])
 fault_line fault.WriteFault = codes "write fault\n"
 fault_line fault.OutOfMemory = codes "out of memory\n"

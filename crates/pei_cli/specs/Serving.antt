@@ -1,5 +1,5 @@
 -- What a command comes to.
-use Rattle.std.specs.Prelude.{◌≡◌, ⊤, ◌⊎◌, ℕ, ◌≤◌, List, length, take, Option, None, IfSome, Result, Ok, Err}
+use Rattle.std.specs.Prelude.{◌≡◌, ◌≢◌, ⊤, ◌⊎◌, ℕ, ◌<◌, ◌≤◌, List, length, take, Option, Some, None, IfSome, Result, Ok, Err}
 use Rattle.pei_types.specs.declared.machines.MachineSpec.{MachineSpec}
 use Rattle.pei_types.specs.Ends.{ends_of, status_of}
 use Rattle.pei_types.specs.Image.{IsImageOf, load_refusal}
@@ -9,7 +9,8 @@ use Rattle.pei_types.specs.Texts.{report_text}
 use Rattle.pei_io.specs.Outside.{Rose, Added}
 use Rattle.pei_io.specs.declared.files.Which.TheVariants as which
 use Rattle.pei_asm.specs.declared.faults.AsmKind.TheVariants as kind
-use Rattle.pei_asm.specs.Form.{IsFormOf}
+use Rattle.pei_asm.specs.Faults.{first_fault}
+use Rattle.pei_asm.specs.Spelling.{Spells}
 use Rattle.pei_loader.specs.Faults.{IsLoadRefusal}
 use Rattle.pei_loader.specs.declared.faults.LoadFault.{LoadFault}
 use Rattle.pei_loader.specs.declared.faults.LoadFault.TheVariants as load
@@ -25,21 +26,22 @@ use Rattle.pei_cli.specs.declared.faults.Fault.TheVariants as fault
 
 -- ---- reading the program
 
--- no program has this text
-abbrev pub IsNoProgram : List ℕ → Type 0
-IsNoProgram text = (p : Listing) → IsFormOf text p → ⊥
-
--- The text was read: it is what the file holds, where that is told, and as many bytes were taken.
+-- The text was read: it is what the file holds, where that is told, as many bytes were taken, and they are no more than
+-- a program may have.
 pub record IsRead (held : Option (List ℕ)) (taken : ℕ) (text : List ℕ) : Type 0 where
   pub content : IfSome held (λ bytes. text ≡ bytes)
   pub count : taken ≡ length text
+  pub within : length text ≤ 1048576
 
--- The program of the text that was read, or why there is none.
+-- The program that the text spells, or why there is none: the first fault of the text, a text that is too long, or a fault
+-- of the file.
 abbrev pub ReadsProgram : Option (List ℕ) → ℕ → ℕ → ℕ → Result Listing Fault → Type 0
-ReadsProgram held taken faults faults_now (Ok p) = (text : List ℕ) × IsRead held taken text × IsFormOf text p
+ReadsProgram held taken faults faults_now (Ok p) = (text : List ℕ) × IsRead held taken text × Spells text p
 ReadsProgram held taken faults faults_now (Err (fault.ProgramBad f)) =
-    (f ≡ record { line = 0; column = 0; kind = kind.NotBuilt }) × IfSome held IsNoProgram
-ReadsProgram held taken faults faults_now (Err (fault.ReadFault w)) = (w ≡ which.Program) × Rose faults faults_now
+    (f.kind ≢ kind.OutOfMemory) × (text : List ℕ) × IsRead held taken text × (first_fault text ≡ Some f)
+ReadsProgram held taken faults faults_now (Err (fault.InputTooLong w)) =
+    (w ≡ which.Program) × (taken ≡ 1048577) × IfSome held (λ bytes. 1048576 < length bytes)
+ReadsProgram held taken faults faults_now (Err (fault.ReadFault w)) = (w ≡ which.Program) × Rose faults faults_now × (taken ≤ 1048576)
 ReadsProgram held taken faults faults_now (Err fault.OutOfMemory) = ⊤
 ReadsProgram held taken faults faults_now (Err _) = ⊥
 

@@ -2,7 +2,7 @@
 
 ghost use Rattle.std.specs.Prelude.{◌≡◌};
 ghost use Rattle.pei_io.specs.Outside.{Writes};
-ghost use Rattle.pei_cli.specs.FaultLines.{fault_of_loading, status_of_fault, fault_line, load_line, asm_word, which_word};
+ghost use Rattle.pei_cli.specs.FaultLines.{fault_of_loading, fault_of_text, status_of_fault, fault_line, load_line, asm_word, which_word};
 
 use crate::writing::write_pieces;
 use itoa::Buffer;
@@ -19,12 +19,24 @@ pub enum Fault {
     ProgramBad(AsmFault),
     /// The program can't be loaded.
     LoadBad(LoadFault),
+    /// A file has more bytes than it may have.
+    InputTooLong { which: Which },
     /// A file could not be opened or read.
     ReadFault { which: Which },
     /// The output could not be written; a front of it was.
     WriteFault,
     /// Memory ran out. This says nothing of the inputs.
     OutOfMemory,
+}
+
+/// The fault of a command whose program's text has a fault. Want of memory is told as such.
+pub(crate) fn text_fault(fault: AsmFault) -> Fault
+    ensures { result ≡ fault_of_text fault }
+{
+    match fault.kind {
+        AsmKind::OutOfMemory => Fault::OutOfMemory,
+        _ => Fault::ProgramBad(fault),
+    }
 }
 
 /// The fault of a command whose program was not loaded. Want of memory is told as such.
@@ -44,6 +56,7 @@ pub fn status_of(fault: &Fault) -> u8
     match fault {
         Fault::Usage => 2,
         Fault::ProgramBad(_) | Fault::LoadBad(_) => 3,
+        Fault::InputTooLong { .. } => 13,
         Fault::ReadFault { .. } => 8,
         Fault::WriteFault => 9,
         Fault::OutOfMemory => 10,
@@ -61,12 +74,20 @@ pub fn write_fault<K: Sink>(fault: &Fault, sink: &mut K) -> Result<(), Failed>
         ),
         Fault::ProgramBad(fault) => write_program_bad(fault, sink),
         Fault::LoadBad(fault) => write_load_bad(fault, sink),
+        Fault::InputTooLong { which } => write_too_long(*which, sink),
         Fault::ReadFault { which } => {
             write_pieces(sink, &[b"read fault ", which_word(*which), b"\n"])
         }
         Fault::WriteFault => write_pieces(sink, &[b"write fault\n"]),
         Fault::OutOfMemory => write_pieces(sink, &[b"out of memory\n"]),
     }
+}
+
+/// Writes the line of a file that is too long.
+fn write_too_long<K: Sink>(which: Which, sink: &mut K) -> Result<(), Failed>
+    ensures { Writes (fault_line (Fault.InputTooLong which)) (K.written sink.old) (K.written sink.new) (K.faults sink.old) (K.faults sink.new) result }
+{
+    write_pieces(sink, &[b"input too long ", which_word(which), b"\n"])
 }
 
 /// Writes the line of a fault of a program's text.
@@ -94,7 +115,16 @@ fn asm_word(kind: AsmKind) -> &'static [u8]
     ensures { result.now ≡ asm_word kind }
 {
     match kind {
-        AsmKind::NotBuilt => b"NotBuilt",
+        AsmKind::NotUtf8 => b"NotUtf8",
+        AsmKind::BadChar => b"BadChar",
+        AsmKind::DoubleLabel => b"DoubleLabel",
+        AsmKind::UnknownName => b"UnknownName",
+        AsmKind::WrongOperands => b"WrongOperands",
+        AsmKind::NumberTooLarge => b"NumberTooLarge",
+        AsmKind::RegisterRange => b"RegisterRange",
+        AsmKind::TooManyInstructions => b"TooManyInstructions",
+        AsmKind::DoubleEntry => b"DoubleEntry",
+        AsmKind::UnknownLabel => b"UnknownLabel",
         AsmKind::OutOfMemory => b"OutOfMemory",
     }
 }

@@ -10,11 +10,11 @@ ghost use Rattle.pei_cli.specs.Jobs.{Job, Runs, Generates, asked_of};
 ghost use Rattle.pei_cli.specs.Serving.{ReadsProgram, RunsJob, Serves, WritesGenerated};
 
 use crate::ends::PlainEnd;
-use crate::faults::{Fault, load_fault};
+use crate::faults::{Fault, load_fault, text_fault};
 use crate::machines::built_in;
 use crate::status::run_status;
 use crate::words::{Asked, Run, read_words};
-use pei_asm::{AsmFault, AsmKind, assemble};
+use pei_asm::assemble;
 use pei_io::{Failed, Files, ReadEnd, Sink, Text, Which, read_limited};
 use pei_loader::load;
 use pei_types::Program;
@@ -24,7 +24,7 @@ use std::alloc::Global;
 use workload_gen::generate;
 
 /// The most bytes of a program's file.
-const MOST_BYTES: u32 = 4096;
+const MOST_BYTES: u32 = 1_048_576;
 
 /// Serves the words `sched PROGRAM MACHINE SEED TURNS`: it reads the program, runs it by the schedule on the plain
 /// machine, and writes the report to the sink. And it serves `gen N`: it writes the generated program of that number.
@@ -107,32 +107,22 @@ fn read_program<F: Files>(alloc: Global, files: &mut F, name: &str) -> Result<Pr
                 which: Which::Program,
             });
         }
-        Err(ReadEnd::TooLong) => return Err(Fault::ProgramBad(not_built())),
+        Err(ReadEnd::TooLong) => {
+            return Err(Fault::InputTooLong {
+                which: Which::Program,
+            });
+        }
         Err(ReadEnd::OutOfMemory) => return Err(Fault::OutOfMemory),
     };
     match assemble(alloc, bytes.as_slice()) {
         Ok(program) => Ok(program),
-        Err(fault) => match fault.kind {
-            AsmKind::OutOfMemory => Err(Fault::OutOfMemory),
-            AsmKind::NotBuilt => Err(Fault::ProgramBad(fault)),
-        },
-    }
-}
-
-/// The fault of a text that no program has.
-fn not_built() -> AsmFault
-    ensures { result ≡ record { line = 0; column = 0; kind = AsmKind.NotBuilt } }
-{
-    AsmFault {
-        line: 0,
-        column: 0,
-        kind: AsmKind::NotBuilt,
+        Err(fault) => Err(text_fault(fault)),
     }
 }
 
 /// Runs a program as the words ask, and writes the report. The report takes no memory, so want of memory is told before
 /// the first turn.
-pub(crate) fn run_program<K: Sink>(
+fn run_program<K: Sink>(
     alloc: Global,
     program: &Program,
     run: &Run,

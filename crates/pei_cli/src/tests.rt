@@ -2,15 +2,12 @@
 //!
 //! The rows of `runs_are_reported` take each step that can want memory, with ample memory.
 
-ghost use Rattle.std.specs.Prelude.{◌<◌, ◌≤◌, length};
+ghost use Rattle.std.specs.Prelude.{◌≤◌};
 
 use super::*;
-use crate::serving::run_program;
-use crate::words::Run;
-use pei_asm::{AsmFault, AsmKind, assemble};
+use pei_asm::{AsmFault, AsmKind};
 use pei_io::{MemFiles, MemSink, Text, Which};
-use pei_types::{Ask, OutOfMemory, Program};
-use sched_run::Policy;
+use pei_types::OutOfMemory;
 use std::alloc::Global;
 use std::test::Fail;
 
@@ -31,15 +28,15 @@ const RACING: &[u8] = b".entry 0, s\ns: li r1, 4096\npinc r1, 0\nld r2, r1, 0\no
 /// What `RAISE` writes.
 const RAISED: &[u8] = b"out 0 1\ncore 0 halt\nstatus 0\n";
 
-const NOT_BUILT: Fault = Fault::ProgramBad(AsmFault {
-    line: 0,
-    column: 0,
-    kind: AsmKind::NotBuilt,
-});
+const TOO_LONG: Fault = Fault::InputTooLong {
+    which: Which::Program,
+};
 
 const READ_FAULT: Fault = Fault::ReadFault {
     which: Which::Program,
 };
+
+const NO_ENTRY: Fault = Fault::LoadBad(LoadFault::NoEntry { core: 0 });
 
 /// What a command came to, and its sink.
 #[derive(Drop)]
@@ -74,23 +71,23 @@ fn serve(
     Ok(Served { result, sink })
 }
 
-/// A program that halts, as text: so many lines `halt`, and then so many lines `pfence`.
-fn halting(alloc: Global, halts: usize, fences: usize) -> Result<Vec<u8>, OutOfMemory> {
+/// `RAISE`, and blanks behind it, so many bytes in all.
+fn padded(alloc: Global, len: usize) -> Result<Vec<u8>, OutOfMemory> {
     let mut text = Vec::new(alloc);
-    let mut whole = text.extend_from_slice(b".entry 0, s\ns: ").is_ok();
-    for _ in 0..halts {
-        whole &= text.extend_from_slice(b"halt\n").is_ok();
-    }
-    for _ in 0..fences {
-        whole &= text.extend_from_slice(b"pfence\n").is_ok();
+    let mut whole = text.extend_from_slice(RAISE).is_ok();
+    for _ in text.len()..len {
+        whole &= text.push(b' ').is_ok();
     }
     if whole { Ok(text) } else { Err(OutOfMemory) }
 }
 
+/// A fault of a program's text.
+fn bad(line: u32, column: u32, kind: AsmKind) -> Fault {
+    Fault::ProgramBad(AsmFault { line, column, kind })
+}
+
 #[test]
 fn runs_are_reported(rt: HostRuntime) -> Result<(), Fail> {
-    let longest = halting(rt.alloc(), 7, 578)?;
-    assert_eq!(rt; longest.len(), 4096);
     for (command, program, most, want, want_status, events, want_turns) in [
         ("sched p -1 rr 1000", RAISE, 5000, RAISED, 0, 11, 41),
         ("sched p -1 rr 1000", RAISE, 1, RAISED, 0, 11, 41),
@@ -148,15 +145,6 @@ fn runs_are_reported(rt: HostRuntime) -> Result<(), Fail> {
             8,
             13,
         ),
-        (
-            "sched p -1 rr 1000000000",
-            longest.as_slice(),
-            5000,
-            b"core 0 halt\nstatus 0\n",
-            0,
-            1,
-            1,
-        ),
     ] {
         assert!(rt; most > 0);
         let served = serve(rt.alloc(), command, program, most, 0, 0)?;
@@ -193,13 +181,45 @@ fn seeds_are_numbers_of_64_bits(rt: HostRuntime) -> Result<(), Fail> {
 
 #[test]
 fn other_commands_write_nothing(rt: HostRuntime) -> Result<(), Fail> {
-    let too_long = halting(rt.alloc(), 3, 581)?;
-    assert_eq!(rt; too_long.len(), 4097);
-    let no_entry = Fault::LoadBad(LoadFault::NoEntry { core: 1 });
+    let too_long = padded(rt.alloc(), 1_048_577)?;
     for (command, program, want) in [
-        ("sched p -1 rr 1000", b"".as_slice(), NOT_BUILT),
-        ("sched p -1 rr 1000", too_long.as_slice(), NOT_BUILT),
-        ("sched p -2 rr 1000", RAISE, no_entry),
+        ("sched p -1 rr 1000", b"".as_slice(), NO_ENTRY),
+        ("sched p -1 rr 1000", too_long.as_slice(), TOO_LONG),
+        (
+            "sched p -1 rr 1000",
+            b"pdot r4, r13, 0, r13".as_slice(),
+            bad(1, 18, AsmKind::RegisterRange),
+        ),
+        (
+            "sched p -1 rr 1000",
+            b"x: halt\nx: halt".as_slice(),
+            bad(2, 1, AsmKind::DoubleLabel),
+        ),
+        (
+            "sched p -1 rr 1000",
+            b"jmp y".as_slice(),
+            bad(1, 5, AsmKind::UnknownLabel),
+        ),
+        (
+            "sched p -1 rr 1000",
+            b"halt\nfrobnicate r1\n".as_slice(),
+            bad(2, 1, AsmKind::UnknownName),
+        ),
+        (
+            "sched p -1 rr 1000",
+            b".data 4, 41, 42\n.sum 262136, 2\n".as_slice(),
+            Fault::LoadBad(LoadFault::DataMisaligned { addr: 4 }),
+        ),
+        (
+            "sched p -1 rr 1000",
+            b".data 262136, 41, 42\n".as_slice(),
+            Fault::LoadBad(LoadFault::DataOutOfRange { addr: 262_144 }),
+        ),
+        (
+            "sched p -1 rr 1000",
+            b".data 0, 41\n.sum 262136, 2\n".as_slice(),
+            Fault::LoadBad(LoadFault::ShowOutOfRange { addr: 262_136 }),
+        ),
         ("", RAISE, Fault::Usage),
         ("sched p -1 rr", RAISE, Fault::Usage),
         ("sched p -1 rr 1000 more", RAISE, Fault::Usage),
@@ -233,7 +253,12 @@ fn faults_have_a_status_and_a_line(rt: HostRuntime) -> Result<(), Fail> {
             2,
             b"usage: peisim asm or sched or run or check or gen\n".as_slice(),
         ),
-        (NOT_BUILT, 3, b"program bad 0:0 NotBuilt\n".as_slice()),
+        (
+            bad(12, 345, AsmKind::WrongOperands),
+            3,
+            b"program bad 12:345 WrongOperands\n".as_slice(),
+        ),
+        (TOO_LONG, 13, b"input too long program\n".as_slice()),
         (
             Fault::LoadBad(LoadFault::NoEntry { core: 1 }),
             3,
@@ -332,89 +357,118 @@ fn writes_fail_where_asked(rt: HostRuntime) -> Result<(), Fail> {
     Ok(())
 }
 
-/// `RAISE` with a line of initial words and an ask, and with statistics.
-fn asking(alloc: Global, addr: u64, words: &[u64], ask: Ask) -> Result<Program, Fail>
-    requires { 0 < length words.now }
-{
-    let Ok(mut program) = assemble(alloc, RAISE) else {
-        return Err(Fail::from("the program is of the form"));
-    };
-    if program.lines() > 0 || program.push_words(addr, words).is_err() {
-        return Err(Fail::from("there is memory for the words"));
-    }
-    if program.push_ask(ask).is_err() {
-        return Err(Fail::from("there is memory for the ask"));
-    }
-    program.set_stats();
-    Ok(program)
-}
+/// Programs with one core, what they write, and their status. The statistics are those of `RAISE`. The word at 4096
+/// becomes 42, the next one is the largest, and the one behind it is 0: their sum wraps to 41.
+const RUNS: [(&str, &str, u8); 10] = [
+    (
+        ".entry 0, s\n.data 4096, 41, -1\n.show 4096, 2\n.sum 4096, 3\n.show 8, 0\n.stats\ns: li r1, 4096\npinc r1, 0\n\
+pfence\nld r2, r1, 0\nout r2\nhalt",
+        "out 0 42\ncore 0 halt\nmem 4096 42\nmem 4104 18446744073709551615\nsum 4096 3 41\n\
+stat events 11\nstat loads 1\nstat stores 0\nstat issues 1\nstat host 1\nstat memory 0\nstat reads 1\n\
+stat seals 0\nstat acts 1\nstat fences 1\nstat races 0\nstat inv 0\nstat down 0\nstat evict1 0\nstat clean 0\n\
+stat evict2 0\nstat fill 0\nstat grants 0\nstat grante 0\nstat grantm 0\nstatus 0\n",
+        0,
+    ),
+    (
+        ".entry 0, s\n.data 4096, 5\n.show 4096, 1\ns: li r1, 4096\nli r2, 5\npmin r1, 0, r2\nli r2, -1\npmin r1, 0, r2\n\
+pfence\nhalt",
+        "core 0 halt\nmem 4096 5\nstatus 0\n",
+        0,
+    ),
+    (
+        ".entry 0, s\n.data 4096, 18446744073709551615\n.show 4096, 1\ns: li r1, 4096\npinc r1, 0\nhalt",
+        "core 0 halt\nmem 4096 0\nstatus 0\n",
+        0,
+    ),
+    (
+        ".entry 0, s\n.data 4096, 7, 70, 7, 71, 9, 90, 0, 8192\n.data 4160, 7, 70, 7, 71, 9, 90, 9, 8192\ns: li r1, 4096\n\
+li r2, 7\npprobe r4, r1, 0, r2\nout r4\nout r5\npprobe r4, r1, 64, r2\nout r4\nout r5\nli r2, 9\n\
+pprobe r4, r1, 64, r2\nout r4\nout r5\nhalt",
+        "out 0 0\nout 0 8192\nout 0 1\nout 0 70\nout 0 1\nout 0 90\ncore 0 halt\nstatus 0\n",
+        0,
+    ),
+    (
+        ".entry 0, s\n.data 4096, 0xAB00000012345678\ns: li r1, 4096\nli r2, 24\nphist r4, r1, 0, r2\nout r4\nout r5\n\
+li r2, 25\nphist r6, r1, 0, r2\nhalt",
+        "out 0 43794\nout 0 0\ncore 0 trap 6 shift\nstatus 5\n",
+        5,
+    ),
+    (
+        ".entry 0, s\n.data 4096, 0x8000000080000000, 0x8000000080000000, 0x8000000080000000, 0x8000000080000000, \
+0x8000000080000000, 0x8000000080000000, 0x8000000080000000, 0x8000000080000000\ns: li r1, 4096\n\
+li r4, 0x8000800080008000\nli r5, 0x8000800080008000\nli r6, 0x8000800080008000\nli r7, 0x8000800080008000\n\
+pdot r8, r1, 0, r4\nout r8\nhalt",
+        "out 0 1125899906842624\ncore 0 halt\nstatus 0\n",
+        0,
+    ),
+    (".entry 0, l\nl: jmp l", "core 0 fuel\nstatus 5\n", 5),
+    (
+        ".entry 0, s\ns: ld r1, r0, 4",
+        "core 0 trap 0 align\nstatus 5\n",
+        5,
+    ),
+    (
+        ".entry 0, s\ns: ld r1, r0, 262144",
+        "core 0 trap 0 range\nstatus 5\n",
+        5,
+    ),
+    (".entry 0, e\ne:", "core 0 trap 0 pc\nstatus 5\n", 5),
+];
 
-/// The statistics of `RAISE` on one core.
-const RAISED_STATS: &str = "stat events 11\nstat loads 1\nstat stores 0\nstat issues 1\n\
-stat host 1\nstat memory 0\nstat reads 1\nstat seals 0\nstat acts 1\nstat fences 1\nstat races 0\n\
-stat inv 0\nstat down 0\nstat evict1 0\nstat clean 0\nstat evict2 0\nstat fill 0\nstat grants 0\n\
-stat grante 0\nstat grantm 0\n";
-
-/// The word at 4096 becomes 42, the next one is the largest, and the one behind it is 0: their sum wraps to 41.
 #[test]
-fn asks_and_statistics_are_reported(rt: HostRuntime) -> Result<(), Fail> {
-    let run = Run {
-        cores: 1,
-        policy: Policy::RoundRobin,
-        turns: 1000,
-    };
-    for (ask, lines) in [
-        (
-            Ask::Show {
-                addr: 4096,
-                count: 2,
-            },
-            "mem 4096 42\nmem 4104 18446744073709551615\n",
-        ),
-        (
-            Ask::Sum {
-                addr: 4096,
-                count: 3,
-            },
-            "sum 4096 3 41\n",
-        ),
-        (Ask::Show { addr: 8, count: 0 }, ""),
-    ] {
-        let program = asking(rt.alloc(), 4096, &[41, u64::MAX], ask)?;
-        let mut sink = MemSink::make(rt.alloc(), 4096, 4096, &[])?;
-        let result = run_program(rt.alloc(), &program, &run, &mut sink);
-        assert_eq!(rt; result.err(), None);
-        let want = format!(in rt.alloc();
-            "out 0 42\ncore 0 halt\n{lines}{RAISED_STATS}status 0\n"
+fn operations_traps_and_asks_are_reported(rt: HostRuntime) -> Result<(), Fail> {
+    for (program, want, want_status) in RUNS {
+        let served = serve(
+            rt.alloc(),
+            "sched p -1 rr 10000",
+            program.as_bytes(),
+            5000,
+            0,
+            0,
         )?;
-        assert_eq!(rt; sink.bytes(), want.as_bytes());
+        assert_eq!(rt; served.sink.bytes(), want.as_bytes(), "{program}");
+        let PlainEnd::Sched { status, .. } = served.result? else {
+            assert!(rt; false, "{program}");
+            continue;
+        };
+        assert_eq!(rt; status, want_status, "{program}");
     }
     Ok(())
 }
 
-/// What loading refuses is told, and nothing is written. Memory ends at 262,144.
+/// A program of as many bytes as there may be runs.
 #[test]
-fn load_faults_are_told(rt: HostRuntime) -> Result<(), Fail> {
-    let run = Run {
-        cores: 1,
-        policy: Policy::Serial,
-        turns: 1000,
-    };
-    let inside = Ask::Sum { addr: 0, count: 1 };
-    let outside = Ask::Sum {
-        addr: 262_136,
-        count: 2,
-    };
-    for (addr, ask, fault) in [
-        (4, outside, LoadFault::DataMisaligned { addr: 4 }),
-        (262_136, inside, LoadFault::DataOutOfRange { addr: 262_144 }),
-        (0, outside, LoadFault::ShowOutOfRange { addr: 262_136 }),
-    ] {
-        let program = asking(rt.alloc(), addr, &[41, 42], ask)?;
-        let mut sink = MemSink::make(rt.alloc(), 4096, 4096, &[])?;
-        let result = run_program(rt.alloc(), &program, &run, &mut sink);
-        assert_eq!(rt; result.err(), Some(Fault::LoadBad(fault)));
-        assert_eq!(rt; sink.bytes(), b"".as_slice());
-    }
+fn the_longest_program_is_accepted(rt: HostRuntime) -> Result<(), Fail> {
+    let longest = padded(rt.alloc(), 1_048_576)?;
+    let served = serve(
+        rt.alloc(),
+        "sched p -1 rr 1000",
+        longest.as_slice(),
+        65536,
+        0,
+        0,
+    )?;
+    assert_eq!(rt; served.sink.bytes(), RAISED);
+    assert_eq!(rt; served.result.err(), None);
+    Ok(())
+}
+
+/// One core makes 64 increments.
+#[test]
+fn a_generated_program_runs(rt: HostRuntime) -> Result<(), Fail> {
+    let program = serve(rt.alloc(), "gen 0", b"", 5000, 0, 0)?;
+    let served = serve(
+        rt.alloc(),
+        "sched p -1 rr 1000000",
+        program.sink.bytes(),
+        5000,
+        0,
+        0,
+    )?;
+    assert_eq!(rt;
+        served.sink.bytes(),
+        b"core 0 halt\nsum 65536 4096 64\nstatus 0\n".as_slice()
+    );
+    assert_eq!(rt; served.result.err(), None);
     Ok(())
 }

@@ -1,0 +1,28 @@
+use Rattle.std.specs.Str.Lossy.{utf8_valid_len}
+use Rattle.std.specs.Str.{is_utf8, chars}
+use Rattle.std.specs.Char.{encode_utf8}
+use Rattle.std.proofs.Common.{refl}
+use Rattle.pei_asm.specs.Faults.{line_fault}
+use Rattle.pei_asm.specs.Mnemonics.{register_names, table}
+use Rattle.pei_asm.proofs.evidence.encodings_are_right.Goals as goal
+
+pub returns : goal.returns
+unfolding utf8_valid_len is_utf8 chars encode_utf8 register_names table line_fault
+returns c =
+    record {
+      alone = refl;
+      before_bad_char = refl;
+      in_comment = refl;
+      short = refl;
+      surrogate = refl;
+      continuation = refl;
+      too_long_form = refl;
+      past_last = refl;
+      five_bytes = refl;
+      first_of_two = refl;
+      behind_character = refl;
+      before_double_label = refl;
+      later_line = refl;
+      last_character = refl;
+      zero_byte = refl;
+    }

@@ -1,0 +1,22 @@
+use Rattle.std.specs.Str.Lossy.{utf8_valid_len}
+use Rattle.std.specs.Str.{is_utf8, chars}
+use Rattle.std.specs.Char.{encode_utf8}
+use Rattle.std.proofs.Common.{refl}
+use Rattle.pei_asm.specs.Faults.{line_fault}
+use Rattle.pei_asm.specs.Mnemonics.{register_names, table}
+use Rattle.pei_asm.proofs.evidence.entries_are_right.Goals as goal
+
+pub returns : goal.returns
+unfolding utf8_valid_len is_utf8 chars encode_utf8 register_names table line_fault
+returns c =
+    record {
+      same_core = refl;
+      all = refl;
+      each = refl;
+      third = refl;
+      behind_label = refl;
+      minus_zero = refl;
+      before_unknown_label = refl;
+      core_out_of_range_first = refl;
+      all_cores = refl;
+    }

@@ -1,0 +1,9 @@
+-- Labels that are used and not defined.
+use Rattle.std.specs.Prelude.{Bool, ◌&&◌, not, List}
+use Rattle.pei_asm.specs.Tokens.{Placed}
+use Rattle.pei_asm.specs.Statements.{Line}
+use Rattle.pei_asm.specs.Spelling.{is_defined, names_label}
+
+-- an operand is a label that no line defines
+abbrev pub is_undefined : List Line → Placed → Bool
+is_undefined lines t = names_label t && not (is_defined lines t)
