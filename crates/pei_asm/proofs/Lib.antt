@@ -23,3 +23,4 @@ pub mod UnknownUses
 pub mod ItemByItem
 pub mod OperandValues
 pub mod SourceItems
+pub mod AddingOn

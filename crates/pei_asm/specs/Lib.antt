@@ -14,3 +14,4 @@ pub mod Unknown
 pub mod Building
 pub mod Places
 pub mod Examples
+pub mod Named

@@ -13,8 +13,11 @@ mod items;
 mod labels;
 mod lines;
 mod mnemonics;
+mod named;
 mod numbers;
 mod operands;
+mod pieces;
+mod printing;
 mod reading;
 mod registers;
 mod tokens;
@@ -25,6 +28,7 @@ mod verdicts;
 pub use assembling::assemble;
 pub use faults::{AsmFault, AsmKind};
 pub use mnemonics::Mnemonic;
+pub use printing::print;
 
 pub mod evidence;
 #[cfg(test)]
