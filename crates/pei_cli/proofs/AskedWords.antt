@@ -7,11 +7,6 @@ use Rattle.pei_cli.specs.Jobs.{asked_by, asked_of}
 
 -- ---- the other verbs ask for nothing that is built
 
-no_asm : (rest : List (List ℕ)) → asked_by (asm_words rest) ≡ None
-no_asm [] = refl
-no_asm (program ∷ []) = refl
-no_asm (program ∷ other ∷ more) = refl
-
 no_run : (rest : List (List ℕ)) → asked_by (run_words rest) ≡ None
 no_run [] = refl
 no_run (program ∷ []) = refl
@@ -36,15 +31,17 @@ not_this word verb other = by (bytes_eq word verb) refl
     by true e = absurd (other (sym ((bytes_eq-Decides word verb).0 e)))
     by false e = e
 
--- so does any verb but two
-pub other_verb : (verb : List ℕ) (rest : List (List ℕ)) → (verb ≡ codes "sched" → ⊥) → (verb ≡ codes "gen" → ⊥) → asked_of (verb ∷ rest) ≡ None
-other_verb verb rest not_sched not_gen =
-    by (bytes_eq (codes "asm") verb) (bytes_eq (codes "sched") verb) (bytes_eq (codes "run") verb) (bytes_eq (codes "check") verb) (bytes_eq (codes "gen") verb) (not_this (codes "sched") verb not_sched) (not_this (codes "gen") verb not_gen)
+-- so does any verb but three
+pub other_verb : (verb : List ℕ) (rest : List (List ℕ)) → (verb ≡ codes "asm" → ⊥) → (verb ≡ codes "sched" → ⊥) → (verb ≡ codes "gen" → ⊥) → asked_of (verb ∷ rest) ≡ None
+other_verb verb rest not_asm not_sched not_gen =
+    by (bytes_eq (codes "asm") verb) (bytes_eq (codes "sched") verb) (bytes_eq (codes "run") verb) (bytes_eq (codes "check") verb) (bytes_eq (codes "gen") verb)
+    (not_this (codes "asm") verb not_asm) (not_this (codes "sched") verb not_sched) (not_this (codes "gen") verb not_gen)
   where
-    by : (a s r c g : Bool) → s ≡ false → g ≡ false → asked_by (if a then asm_words rest else (if s then sched_words rest else (if r then run_words rest else (if c then check_words rest else (if g then gen_words rest else None))))) ≡ None
-    by true s r c g e f = no_asm rest
-    by false true r c g e f = absurd (cc e)
-    by false false true c g e f = no_run rest
-    by false false false true g e f = no_check rest
-    by false false false false true e f = absurd (cc f)
-    by false false false false false e f = refl
+    by : (a s r c g : Bool) → a ≡ false → s ≡ false → g ≡ false
+        → asked_by (if a then asm_words rest else (if s then sched_words rest else (if r then run_words rest else (if c then check_words rest else (if g then gen_words rest else None))))) ≡ None
+    by true s r c g d e f = absurd (cc d)
+    by false true r c g d e f = absurd (cc e)
+    by false false true c g d e f = no_run rest
+    by false false false true g d e f = no_check rest
+    by false false false false true d e f = absurd (cc f)
+    by false false false false false d e f = refl

@@ -2,7 +2,7 @@
 use Rattle.std.specs.Prelude.{ℕ, List, Option, Some, None, option_and_then, if◌then◌else◌}
 use Rattle.sched_run.specs.declared.policies.Policy.{Policy}
 use Rattle.sched_run.specs.declared.policies.Policy.TheVariants as policy
-use Rattle.pei_cli.specs.Commands.{Command, Sched, Gen, BuiltIn, ScheduleWord, InTurn, Serial, Seeded, Report, is_run, plain_command_of}
+use Rattle.pei_cli.specs.Commands.{Command, Asm, Sched, Gen, BuiltIn, ScheduleWord, InTurn, Serial, Seeded, Report, is_run, plain_command_of}
 
 -- A scheduled run with its report: the name of the program's file, the cores of the built-in machine, who takes the
 -- turns, and how many at most.
@@ -20,10 +20,13 @@ policy_of_word (Seeded seed) = policy.Seeded seed
 -- what words can ask for
 pub data Asked : Type 0 where
   Runs : Job → Asked
+  Prints : (file : List ℕ) → Asked
   Generates : (n : ℕ) → Asked
 
--- of the commands, a scheduled run on a built-in machine, with its report, and the generated program are built
+-- of the commands, the canonical text of a program, a scheduled run on a built-in machine, with its report, and the
+-- generated program are built
 abbrev pub built : Command → Option Asked
+built (Asm program) = Some (Prints program)
 built (Sched program (BuiltIn cores) schedule turns Report) =
     Some (Runs (record { program = program; cores = cores; policy = policy_of_word schedule; turns = turns }))
 built (Gen n) = Some (Generates n)

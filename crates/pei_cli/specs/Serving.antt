@@ -9,6 +9,7 @@ use Rattle.pei_types.specs.Texts.{report_text}
 use Rattle.pei_io.specs.Outside.{Rose, Added}
 use Rattle.pei_io.specs.declared.files.Which.TheVariants as which
 use Rattle.pei_asm.specs.declared.faults.AsmKind.TheVariants as kind
+use Rattle.pei_asm.specs.Canonical.{canonical}
 use Rattle.pei_asm.specs.Faults.{first_fault}
 use Rattle.pei_asm.specs.Spelling.{Spells}
 use Rattle.pei_loader.specs.Faults.{IsLoadRefusal}
@@ -17,7 +18,7 @@ use Rattle.pei_loader.specs.declared.faults.LoadFault.TheVariants as load
 use Rattle.sched_run.specs.Scheduled.{run_of}
 use Rattle.sched_run.specs.SixLaws.{SixLaws}
 use Rattle.workload_gen.specs.Generated.{generated}
-use Rattle.pei_cli.specs.Jobs.{Job, Asked, Runs, Generates}
+use Rattle.pei_cli.specs.Jobs.{Job, Asked, Runs, Prints, Generates}
 use Rattle.pei_cli.specs.Machines.{IsBuiltIn}
 use Rattle.pei_cli.specs.declared.ends.PlainEnd.{PlainEnd}
 use Rattle.pei_cli.specs.declared.ends.PlainEnd.TheVariants as ends
@@ -87,6 +88,17 @@ RunsJob job p before now faults faults_now (Err (fault.LoadBad f)) =
 RunsJob job p before now faults faults_now (Err fault.OutOfMemory) = now ≡ before
 RunsJob job p before now faults faults_now (Err _) = ⊥
 
+-- ---- printing it
+
+-- The canonical text of the program was written, or a front of it. Before a fault other than that of writing, nothing was
+-- written.
+abbrev pub PrintsProgram : Listing → Option (List ℕ) → Option (List ℕ) → ℕ → ℕ → Result PlainEnd Fault → Type 0
+PrintsProgram p before now faults faults_now (Ok (ends.Text status)) = (status ≡ 0) × Added (canonical p) before now
+PrintsProgram p before now faults faults_now (Err fault.WriteFault) =
+    ((k : ℕ) × (k ≤ length (canonical p)) × Added (take k (canonical p)) before now) × Rose faults faults_now
+PrintsProgram p before now faults faults_now (Err fault.OutOfMemory) = now ≡ before
+PrintsProgram p before now faults faults_now _ = ⊥
+
 -- ---- a generated program
 
 -- The generated program of a number was written, or a front of it.
@@ -98,11 +110,14 @@ WritesGenerated n before now faults faults_now _ = ⊥
 
 -- ---- the whole command
 
--- A run: the program was not read, and nothing was written; or it was, and this is its run. Or a generated program. `held`
--- tells what a file of a name holds.
+-- A run, or a canonical text: the program was not read, and nothing was written; or it was, and this is its run, or its
+-- text. Or a generated program. `held` tells what a file of a name holds.
 abbrev pub Serves : Asked → (List ℕ → Option (List ℕ)) → ℕ → ℕ → ℕ → Option (List ℕ) → Option (List ℕ) → ℕ → ℕ → Result PlainEnd Fault → Type 0
 Serves (Runs job) held taken faults faults_now before now sink_faults sink_faults_now result =
     ((f : Fault) × (result ≡ Err f) × ReadsProgram (held job.program) taken faults faults_now (Err f) × (now ≡ before))
     ⊎ ((p : Listing) × ReadsProgram (held job.program) taken faults faults_now (Ok p) × RunsJob job p before now sink_faults sink_faults_now result)
+Serves (Prints file) held taken faults faults_now before now sink_faults sink_faults_now result =
+    ((f : Fault) × (result ≡ Err f) × ReadsProgram (held file) taken faults faults_now (Err f) × (now ≡ before))
+    ⊎ ((p : Listing) × ReadsProgram (held file) taken faults faults_now (Ok p) × PrintsProgram p before now sink_faults sink_faults_now result)
 Serves (Generates n) held taken faults faults_now before now sink_faults sink_faults_now result =
     WritesGenerated n before now sink_faults sink_faults_now result

@@ -1,21 +1,22 @@
 //! The top call for commands without threads.
 
-ghost use Rattle.std.specs.Prelude.{◌≡◌, ◌≢◌, ◌≤◌, ◌↔◌, ℕ, List, None, Some, Err, IfSome, IfErr};
+ghost use Rattle.std.specs.Prelude.{◌≡◌, ◌≢◌, ◌≤◌, ◌↔◌, ℕ, List, None, Some, Err, length, IfSome, IfOk, IfErr};
 ghost use Rattle.pei_io.specs.Outside.{LeavesOthers};
 ghost use Rattle.pei_io.specs.declared.files.Which.{Which};
 ghost use Rattle.sched_run.specs.Choosing.{HasActorsOf};
+ghost use Rattle.pei_asm.specs.Canonical.{IsPrintable};
 ghost use Rattle.pei_types.specs.declared.machines.MachineSpec.{MachineSpec};
 ghost use Rattle.pei_cli.specs.Asking.{runs_as};
-ghost use Rattle.pei_cli.specs.Jobs.{Job, Runs, Generates, asked_of};
-ghost use Rattle.pei_cli.specs.Serving.{ReadsProgram, RunsJob, Serves, WritesGenerated};
+ghost use Rattle.pei_cli.specs.Jobs.{Job, Runs, Prints, Generates, asked_of};
+ghost use Rattle.pei_cli.specs.Serving.{PrintsProgram, ReadsProgram, RunsJob, Serves, WritesGenerated};
 
 use crate::ends::PlainEnd;
 use crate::faults::{Fault, load_fault, text_fault};
 use crate::machines::built_in;
 use crate::status::run_status;
 use crate::words::{Asked, Run, read_words};
-use pei_asm::assemble;
-use pei_io::{Failed, Files, ReadEnd, Sink, Text, Which, read_limited};
+use pei_asm::{assemble, print};
+use pei_io::{Failed, Files, ReadEnd, Sink, Text, Which, read_limited, write_all};
 use pei_loader::load;
 use pei_types::Program;
 use report::write_report;
@@ -27,7 +28,8 @@ use workload_gen::generate;
 const MOST_BYTES: u32 = 1_048_576;
 
 /// Serves the words `sched PROGRAM MACHINE SEED TURNS`: it reads the program, runs it by the schedule on the plain
-/// machine, and writes the report to the sink. And it serves `gen N`: it writes the generated program of that number.
+/// machine, and writes the report to the sink. It serves `asm PROGRAM`: it reads the program and writes its canonical
+/// text. And it serves `gen N`: it writes the generated program of that number.
 ///
 /// PROGRAM is a file's name. MACHINE is `-1` to `-8`, the built-in machine of that many cores. SEED is `rr`, `serial` or
 /// a decimal number below 2^64, and TURNS a decimal number of at most 1,000,000,000. N is a decimal number below 2^64.
@@ -48,6 +50,7 @@ pub fn plain<F: Files, K: Sink>(
     ensures serves { IfSome (asked_of words.now) (λ a. Serves a (F.held files.old Which.Program) (F.taken files.new Which.Program) (F.faults files.old Which.Program) (F.faults files.new Which.Program) (K.written sink.old) (K.written sink.new) (K.faults sink.old) (K.faults sink.new) result) }
     ensures untouched { IfErr result (λ f. f ≢ Fault.WriteFault → sink.new ≡ sink.old) }
     ensures named { (job : Job) → asked_of words.now ≡ Some (Runs job) → result ≢ Err Fault.OutOfMemory → F.name files.new Which.Program ≡ Some job.program }
+    ensures printed { (file : List ℕ) → asked_of words.now ≡ Some (Prints file) → result ≢ Err Fault.OutOfMemory → F.name files.new Which.Program ≡ Some file }
     ensures unread { (n : ℕ) → asked_of words.now ≡ Some (Generates n) → files.new ≡ files.old }
     ensures rising { (F.faults files.old Which.Program ≤ F.faults files.new Which.Program) × (K.faults sink.old ≤ K.faults sink.new) }
     ensures others { LeavesOthers F.held F.left F.name F.taken F.faults Which.Program files.old files.new }
@@ -55,6 +58,7 @@ pub fn plain<F: Files, K: Sink>(
     match read_words(words) {
         None => Err(Fault::Usage),
         Some(Asked::Run(run)) => run_file(alloc, words[1].as_str(), &run, files, sink),
+        Some(Asked::Print) => print_file(alloc, words[1].as_str(), files, sink),
         Some(Asked::Generate(n)) => write_generated(n, sink),
     }
 }
@@ -92,10 +96,47 @@ fn run_file<F: Files, K: Sink>(
     run_program(alloc, &program, run, sink)
 }
 
+/// Writes the canonical text of the program of a file of this name.
+fn print_file<F: Files, K: Sink>(
+    alloc: Global,
+    name: &str,
+    files: &mut F,
+    sink: &mut K,
+) -> Result<PlainEnd, Fault>
+    requires { F.name files.old Which.Program ≡ None }
+    ensures serves { Serves (Prints name.now) (F.held files.old Which.Program) (F.taken files.new Which.Program) (F.faults files.old Which.Program) (F.faults files.new Which.Program) (K.written sink.old) (K.written sink.new) (K.faults sink.old) (K.faults sink.new) result }
+    ensures untouched { IfErr result (λ f. f ≢ Fault.WriteFault → sink.new ≡ sink.old) }
+    ensures named { result ≢ Err Fault.OutOfMemory → F.name files.new Which.Program ≡ Some name.now }
+    ensures rising { (F.faults files.old Which.Program ≤ F.faults files.new Which.Program) × (K.faults sink.old ≤ K.faults sink.new) }
+    ensures others { LeavesOthers F.held F.left F.name F.taken F.faults Which.Program files.old files.new }
+{
+    let program = read_program(alloc, files, name)?;
+    print_program(alloc, &program, sink)
+}
+
+/// Writes the canonical text of a program.
+fn print_program<K: Sink>(alloc: Global, program: &Program, sink: &mut K) -> Result<PlainEnd, Fault>
+    requires printable { IsPrintable program.now }
+    requires eight { length program.now.own_entries ≡ 8 }
+    ensures prints { PrintsProgram program.now (K.written sink.old) (K.written sink.new) (K.faults sink.old) (K.faults sink.new) result }
+    ensures untouched { IfErr result (λ f. f ≢ Fault.WriteFault → sink.new ≡ sink.old) }
+    ensures rising { K.faults sink.old ≤ K.faults sink.new }
+{
+    let Ok(text) = print(alloc, program) else {
+        return Err(Fault::OutOfMemory);
+    };
+    match write_all(sink, text.as_str().as_bytes()) {
+        Ok(()) => Ok(PlainEnd::Text { status: 0 }),
+        Err(Failed) => Err(Fault::WriteFault),
+    }
+}
+
 /// Reads the program of a file of this name.
 fn read_program<F: Files>(alloc: Global, files: &mut F, name: &str) -> Result<Program, Fault>
     requires { F.name files.old Which.Program ≡ None }
     ensures reads { ReadsProgram (F.held files.old Which.Program name.now) (F.taken files.new Which.Program) (F.faults files.old Which.Program) (F.faults files.new Which.Program) result }
+    ensures printable { IfOk result IsPrintable }
+    ensures eight { IfOk result (λ p. length p.own_entries ≡ 8) }
     ensures named { result ≢ Err Fault.OutOfMemory → F.name files.new Which.Program ≡ Some name.now }
     ensures rising { F.faults files.old Which.Program ≤ F.faults files.new Which.Program }
     ensures others { LeavesOthers F.held F.left F.name F.taken F.faults Which.Program files.old files.new }

@@ -226,7 +226,13 @@ fn other_commands_write_nothing(rt: HostRuntime) -> Result<(), Fail> {
         ("sched p -1 rr 1000 trace", RAISE, Fault::Usage),
         ("run p -1", RAISE, Fault::Usage),
         ("run p -1 rr 1000", RAISE, Fault::Usage),
-        ("asm p", RAISE, Fault::Usage),
+        ("asm", RAISE, Fault::Usage),
+        ("asm p q", RAISE, Fault::Usage),
+        (
+            "asm p",
+            b"halt\n  halt halt",
+            bad(2, 3, AsmKind::WrongOperands),
+        ),
         ("gen", RAISE, Fault::Usage),
         ("gen +1", RAISE, Fault::Usage),
         ("gen 18446744073709551616", RAISE, Fault::Usage),
@@ -306,6 +312,21 @@ addi r4, r4, -1\nbne r4, r0, loop\npfence\nhalt\n";
     assert_eq!(rt; served.sink.bytes(), want.as_slice());
     assert_eq!(rt; served.result.err(), None);
     let failed = serve(rt.alloc(), "gen 7", b"", 5000, 0, 1)?;
+    assert_eq!(rt; failed.result.err(), Some(Fault::WriteFault));
+    assert_eq!(rt; failed.sink.bytes(), b"".as_slice());
+    Ok(())
+}
+
+#[test]
+fn canonical_texts_are_written(rt: HostRuntime) -> Result<(), Fail> {
+    let program = b".entry 0, s\ns: li r1, 4096\npinc r1, 0\nld r2, r1, 0\nhalt";
+    let want = b".entry 0, L0\nL0: li r1, 4096\npinc r1, 0\nld r2, r1, 0\nhalt\n";
+    let served = serve(rt.alloc(), "asm p", program, 5000, 0, 0)?;
+    assert_eq!(rt; served.sink.bytes(), want.as_slice());
+    assert_eq!(rt; served.result.err(), None);
+    let again = serve(rt.alloc(), "asm p", served.sink.bytes(), 7, 0, 0)?;
+    assert_eq!(rt; again.sink.bytes(), want.as_slice());
+    let failed = serve(rt.alloc(), "asm p", program, 5000, 0, 1)?;
     assert_eq!(rt; failed.result.err(), Some(Fault::WriteFault));
     assert_eq!(rt; failed.sink.bytes(), b"".as_slice());
     Ok(())

@@ -1,11 +1,11 @@
 //! What the words of a command ask for.
 
-ghost use Rattle.std.specs.Prelude.{◌≡◌, ◌+◌, ◌<◌, ◌≤◌, [], Some, None, length, position, get_or, IfSome, option_map};
+ghost use Rattle.std.specs.Prelude.{◌≡◌, ◌+◌, ◌<◌, ◌≤◌, [], Some, None, length, position, get_or, IfSome, option_map, if◌then◌else◌, true};
 ghost use Rattle.std.specs.Str.{bytes_eq};
 ghost use Rattle.pei_types.specs.declared.machines.MachineSpec.{MachineSpec};
 ghost use Rattle.sched_run.specs.Choosing.{HasActorsOf};
-ghost use Rattle.pei_cli.specs.Commands.{built_in_words, decimal_below, schedule_word, sched_words, gen_words};
-ghost use Rattle.pei_cli.specs.Jobs.{Generates, asked_by, policy_of_word};
+ghost use Rattle.pei_cli.specs.Commands.{asm_words, built_in_words, decimal_below, schedule_word, sched_words, gen_words};
+ghost use Rattle.pei_cli.specs.Jobs.{Generates, Prints, asked_by, policy_of_word};
 ghost use Rattle.pei_cli.specs.Asking.{Asks, runs_as};
 
 use pei_io::Text;
@@ -19,6 +19,8 @@ const MOST_TURNS: u64 = 1_000_000_000;
 pub(crate) enum Asked {
     /// A scheduled run. Its program is the second word.
     Run(Run),
+    /// The canonical text of a program, which is the second word.
+    Print,
     /// The generated program of a number.
     Generate(u64),
 }
@@ -37,10 +39,20 @@ pub(crate) fn read_words(words: &[Text]) -> Option<Asked>
 {
     let (verb, rest) = words.split_first()?;
     match verb.as_str() {
+        "asm" if names_program(rest) => Some(Asked::Print),
+        "asm" => None,
         "sched" => Some(Asked::Run(run_words(rest)?)),
         "gen" => Some(Asked::Generate(generate_words(rest)?)),
         _ => None,
     }
+}
+
+/// Whether the words behind `asm` name a program.
+fn names_program(words: &[Text]) -> bool
+    ensures asked { asked_by (asm_words words.now) ≡ (if result then Some (Prints (get_or words.now 0 [])) else None) }
+    ensures within { result ≡ true → 0 < length words.now }
+{
+    words.len() == 1
 }
 
 /// The run that the words behind `sched` ask for.
