@@ -1,10 +1,12 @@
 -- What the table of PEIs on their way is seen as.
-use Rattle.std.specs.Prelude.{ℕ, suc, ◌+◌, ◌-◌, ◌*◌, ◌<◌, ◌≤◌, List, [], ◌∷◌, ◌++◌, replicate, Option, Some, None, option_map, slice_index, slice_set}
+use Rattle.std.specs.Prelude.{ℕ, suc, ◌+◌, ◌-◌, ◌*◌, ◌<◌, ◌≤◌, List, [], ◌∷◌, ◌++◌, replicate, drop, find, Option, Some, None, option_map, slice_get, slice_index, slice_set, ◌≡◌}
 use Rattle.std.specs.Option.{option_map_or}
 use Rattle.pei_types.specs.declared.identifiers.Block.{Block}
 use Rattle.pei_types.specs.declared.identifiers.BlockNo.{BlockNo}
 use Rattle.pei_types.specs.declared.identifiers.CoreId.{CoreId}
 use Rattle.pei_types.specs.declared.identifiers.Lane.{Lane}
+use Rattle.pei_types.specs.declared.identifiers.PeiId.{PeiId}
+use Rattle.pei_types.specs.declared.inflight_looks.PeiLook.{PeiLook}
 use Rattle.pei_types.specs.declared.operations.Op.{Op}
 use Rattle.pei_types.specs.declared.operations.Operands.{Operands}
 use Rattle.pei_types.specs.declared.operations.Place.{Place}
@@ -12,8 +14,10 @@ use Rattle.pei_types.specs.declared.operations.Place.TheVariants as place
 use Rattle.pei_types.specs.declared.inflight_looks.Phase.{Phase}
 use Rattle.pei_types.specs.declared.inflight_looks.Phase.TheVariants as phase
 use Rattle.pei_types.specs.declared.machines.MachineSpec.{MachineSpec}
-use Rattle.pei_types.specs.Coherence.{State, start_state, pei_state, look_in, in_phase, after_leaving, unfinished_writers}
+use Rattle.pei_types.specs.Coherence.{State, start_state, pei_state, look_in, in_phase, with_queued, queue_of, after_leaving, unfinished_writers}
+use Rattle.pei_types.specs.Blocks.{same_block, same_pei, vault_of}
 use Rattle.pei_types.specs.Recency.{change_at}
+use Rattle.inflight.specs.Entries.{behind}
 
 -- The machine; its state without caches and monitor; and the block in each operand buffer entry.
 pub record OnTheWay : Type 0 where
@@ -78,3 +82,30 @@ after_fence_begin s c = record s { fences = slice_set s.fences c.0 (Some (unfini
 
 abbrev pub after_fence_end : State → CoreId → State
 after_fence_end s c = record s { fences = slice_set s.fences c.0 None }
+
+-- the first PEI on the block of a lane's PEI, of those issued after it
+abbrev pub next_on_block : State → CoreId → Lane → Option PeiId
+next_on_block s c l =
+    option_map_or (λ p. option_map (λ q. q.id) (find (λ q. same_block q.block p.block) (behind (λ q. same_pei q.id p.id) s.peis))) (look_in s c l) None
+
+-- the state with the PEI of a lane sealed, at the back of a vault's queue
+abbrev pub after_sealing : State → CoreId → Lane → ℕ → State
+after_sealing s c l v = option_map_or (λ p. in_phase (with_queued s v p.id) p.id phase.Sealed) (look_in s c l) s
+
+-- a sealed PEI that heads the queue of its block's vault
+abbrev pub IsHead : MachineSpec → State → Option PeiLook → Type 0
+IsHead m s None = ⊥
+IsHead m s (Some p) = (p.phase ≡ phase.Sealed) × (slice_get (queue_of s (vault_of m p.block)) 0 ≡ Some p.id)
+
+-- the vault of a sealed PEI's block
+abbrev pub vault_in : MachineSpec → PeiLook → Phase → Option ℕ
+vault_in m p phase.Sealed = Some (vault_of m p.block)
+vault_in m p _ = None
+
+abbrev pub sealed_vault : MachineSpec → Option PeiLook → Option ℕ
+sealed_vault m None = None
+sealed_vault m (Some p) = vault_in m p p.phase
+
+-- the state without the head of the queue of the vault of a lane's PEI
+abbrev pub without_head : MachineSpec → State → CoreId → Lane → State
+without_head m s c l = option_map_or (λ p. record s { queues = change_at s.queues (vault_of m p.block) (drop 1) }) (look_in s c l) s

@@ -2,17 +2,21 @@
 //! core has issued, and the memory fences.
 #![tactic(auto)]
 
+mod chained;
+mod entries;
 mod fences;
-mod looks;
+mod walks;
 
-ghost use Rattle.std.specs.Prelude.{◌≡◌, ◌-◌, ◌^◌, ◌<◌, ◌≤◌, [], List, None, Some, IfOk, IfSome, IfNone, IsSome, is_some, slice_get, slice_index, slice_set, replicate, vec_capacity};
+ghost use Rattle.std.specs.Prelude.{◌≡◌, ◌-◌, ◌^◌, ◌<◌, ◌≤◌, ◌⊎◌, [], List, None, Some, IfOk, IfSome, IfNone, IsSome, is_some, length, slice_get, slice_index, slice_set, replicate, false};
 ghost use Rattle.pei_types.specs.declared.identifiers.PeiId.{PeiId};
 ghost use Rattle.pei_types.specs.Limits.{log_two};
-ghost use Rattle.pei_types.specs.Coherence.{look_in, look_of, free_lane, first_unfinished, first_unentered, conflict, entry_is_taken, fence_of};
-ghost use Rattle.inflight.specs.OnTheWay.{IsLaneOf, none_issued, zero_block, buffer_place, phase_in, phase_at, lane_in_phase, without_lane, after_issuing, after_fence_begin, after_fence_end};
+ghost use Rattle.pei_types.specs.Coherence.{look_in, look_of, free_lane, first_unfinished, first_unentered, conflict, entry_is_taken, is_sealed, queue_of, queue_is_full, fence_of};
+ghost use Rattle.inflight.specs.Entries.{IsUnsealed};
+ghost use Rattle.inflight.specs.OnTheWay.{IsLaneOf, IsHead, none_issued, zero_block, buffer_place, phase_in, phase_at, next_on_block, lane_in_phase, without_lane, without_head, sealed_vault, after_issuing, after_sealing, after_fence_begin, after_fence_end};
 
+use crate::chained::Chained;
+use crate::entries::{ENTRIES, entry_of};
 use crate::fences::{Fence, forget_in_all, make_fences};
-use crate::looks::{PLACES, change_phase, drop_pei, has_conflict, place_in_buffers, writes};
 use pei_types::{
     Block, BlockNo, CoreId, Lane, MachineSpec, Op, Operands, OutOfMemory, PeiId, PeiLook, Phase,
     Place,
@@ -23,13 +27,18 @@ use std::marker::Model;
 /// The PEIs on their way, those that were issued and have not left, in the order of their issue.
 ///
 /// Each is in a lane of its core, 1 to the machine's `buffer`, which has an operand buffer entry. All memory is taken
-/// when the table is made: only `make` can want memory. A core that is handed to a call is one of the machine's, and a
-/// lane is from 1 to `buffer`. The vaults' queues stay empty: no call seals a PEI that is placed in memory.
+/// when the table is made: only `make` can want memory. Each other call takes constant time, or time by the PEIs on
+/// their way, of which there are at most 32: by those whose blocks fold to the same 5 bits where the call is on a block.
+/// `leave` also goes through what the fences wait for. A core or a vault that is handed to a call is one of the
+/// machine's, and a lane is from 1 to `buffer`.
+///
+/// The operand buffers, and that a fence waits for the writers issued before it, follow the paper of PIM-enabled
+/// instructions (Ahn, Yoo, Mutlu and Choi, ISCA 2015); the vaults' queues and the race rule are this project's own.
 #[derive(Drop)]
 pub struct Inflight {
     machine: MachineSpec,
     directory_bits: u32,
-    peis: Vec<PeiLook>,
+    peis: Chained,
     issues: Vec<u32>,
     fences: Vec<Fence>,
     buffers: Vec<Block>,
@@ -55,14 +64,6 @@ fn directory_bits(spec: &MachineSpec) -> u32
     spec.directory.ilog2()
 }
 
-/// No PEI, with room for one in each operand buffer entry.
-fn reserve_peis(alloc: Global) -> Result<Vec<PeiLook>, OutOfMemory>
-    ensures items { IfOk result (λ v. v.items ≡ []) }
-    ensures room { IfOk result (λ v. 32 ≤ vec_capacity v) }
-{
-    Vec::with_capacity(alloc, PLACES).map_err(|_| OutOfMemory)
-}
-
 /// A count of 0 for each core.
 fn make_counts(alloc: Global, cores: u8) -> Result<Vec<u32>, OutOfMemory>
     ensures { IfOk result (λ v. v.items ≡ replicate cores 0) }
@@ -74,7 +75,7 @@ fn make_counts(alloc: Global, cores: u8) -> Result<Vec<u32>, OutOfMemory>
 fn make_buffers(alloc: Global) -> Result<Vec<Block>, OutOfMemory>
     ensures { IfOk result (λ v. v.items ≡ replicate 32 zero_block) }
 {
-    vec![in alloc; Block([0; 8]); PLACES].map_err(|_| OutOfMemory)
+    vec![in alloc; Block([0; 8]); ENTRIES].map_err(|_| OutOfMemory)
 }
 
 impl Inflight {
@@ -84,7 +85,7 @@ impl Inflight {
     pub fn make(alloc: Global, spec: &MachineSpec) -> Result<Inflight, OutOfMemory>
         ensures { IfOk result (λ i. i ≡ none_issued spec.now) }
     {
-        let peis = reserve_peis(alloc)?;
+        let peis = Chained::make(alloc, spec.vaults)?;
         let issues = make_counts(alloc, spec.cores)?;
         let fences = make_fences(alloc, spec.cores)?;
         let buffers = make_buffers(alloc)?;
@@ -133,7 +134,7 @@ impl Inflight {
         let issued = self.issues[core.0 as usize];
         self.issues[core.0 as usize] = issued + 1;
         let id = PeiId { core, seq: issued };
-        self.peis.push_reserved(PeiLook {
+        self.peis.push(PeiLook {
             id,
             lane,
             op,
@@ -151,10 +152,7 @@ impl Inflight {
         ensures here { IfSome result (λ p. (p.id.core ≡ core) × (p.lane ≡ lane)) }
         ensures named { IfSome result (λ p. look_of self.now.state p.id ≡ Some p) }
     {
-        self.peis
-            .iter()
-            .find(|pei| pei.id.core == core && pei.lane == lane)
-            .copied()
+        self.peis.look(core, lane)
     }
 
     /// The first PEI of a core, in the order of issue, that has not entered.
@@ -162,10 +160,7 @@ impl Inflight {
         requires { core.0 < self.now.machine.cores }
         ensures { result ≡ first_unentered self.now.state core }
     {
-        self.peis
-            .iter()
-            .find(|pei| pei.id.core == core && pei.phase == Phase::Issued)
-            .map(|pei| pei.id)
+        self.peis.first_unentered(core)
     }
 
     /// The first PEI of a core, in the order of issue, that has not left.
@@ -173,17 +168,14 @@ impl Inflight {
         requires { core.0 < self.now.machine.cores }
         ensures { result ≡ first_unfinished self.now.state core }
     {
-        self.peis
-            .iter()
-            .find(|pei| pei.id.core == core)
-            .map(|pei| pei.id)
+        self.peis.first_of_core(core)
     }
 
     /// Whether an active PEI conflicts with `pei`: their blocks have the same directory entry, and one of them writes.
     pub fn entry_is_taken(&self, pei: &PeiLook) -> bool
         ensures { result ≡ entry_is_taken self.now.machine self.now.state pei.now }
     {
-        has_conflict(&self.peis, pei, self.directory_bits)
+        self.peis.has_conflict(pei, self.directory_bits)
     }
 
     /// Enters the PEI in a lane into the directory. The condition is that it was issued and has not entered.
@@ -222,7 +214,7 @@ impl Inflight {
             } }
     {
         self.advance(core, lane, Phase::Read);
-        self.buffers[place_in_buffers(core, lane)] = *block;
+        self.buffers[entry_of(core, lane)] = *block;
     }
 
     /// The block in the operand buffer entry of a lane. The condition is that the PEI there has read it and has not
@@ -232,17 +224,71 @@ impl Inflight {
         requires phase { phase_in self.now.state core lane ≡ Some Phase.Read }
         ensures { slice_get self.now.buffers (buffer_place core lane) ≡ Some result }
     {
-        self.buffers[place_in_buffers(core, lane)]
+        self.buffers[entry_of(core, lane)]
     }
 
-    /// The PEI in a lane has acted. The condition is that it has read its block at the host.
+    /// Seals the PEI in a lane on its block: it goes to the back of a vault's queue, which is to be that of its block's
+    /// vault for the PEI to act. The condition is that it is placed in memory, and that the queue is not full.
+    pub fn seal(&mut self, core: CoreId, lane: Lane, vault: u8)
+        requires lane { IsLaneOf self.old.machine core lane }
+        requires phase { phase_in self.old.state core lane ≡ Some Phase.MemoryPlaced }
+        requires vault { vault < self.old.machine.vaults }
+        requires room { queue_is_full self.old.machine self.old.state vault ≡ false }
+        ensures { self.new ≡ record self.old { state = after_sealing self.old.state core lane vault } }
+    {
+        self.peis.seal(core, lane, vault as u32);
+    }
+
+    /// Whether a vault's queue holds as many PEIs as the machine's `queue` says.
+    pub fn queue_full(&self, vault: u8) -> bool
+        requires { vault < self.now.machine.vaults }
+        ensures { result ≡ queue_is_full self.now.machine self.now.state vault }
+    {
+        self.peis.queue_len(vault as u32) == self.machine.queue
+    }
+
+    /// The head of a vault's queue, which is the next to act there.
+    pub fn head(&self, vault: u8) -> Option<PeiId>
+        requires { vault < self.now.machine.vaults }
+        ensures { result ≡ slice_get (queue_of self.now.state vault) 0 }
+    {
+        self.peis.head(vault as u32)
+    }
+
+    /// Whether a PEI is sealed on a block: memory is to execute it.
+    pub fn sealed(&self, b: BlockNo) -> bool
+        ensures { result ≡ is_sealed self.now.state b }
+    {
+        self.peis.sealed(b)
+    }
+
+    /// The PEI in a lane has acted. The condition is that it has read its block at the host, or that it is sealed and
+    /// heads the queue of its block's vault, which it leaves.
     pub fn acted(&mut self, core: CoreId, lane: Lane)
         requires lane { IsLaneOf self.old.machine core lane }
-        requires phase { phase_in self.old.state core lane ≡ Some Phase.Read }
-        ensures { self.new
-            ≡ record self.old { state = lane_in_phase self.old.state core lane Phase.Acted } }
+        requires phase { (phase_in self.old.state core lane ≡ Some Phase.Read) ⊎ IsHead self.old.machine self.old.state (look_in self.old.state core lane) }
+        ensures host { phase_in self.old.state core lane ≡ Some Phase.Read
+            → self.new ≡ record self.old { state = lane_in_phase self.old.state core lane Phase.Acted } }
+        ensures memory { IsHead self.old.machine self.old.state (look_in self.old.state core lane)
+            → self.new ≡ record self.old { state = lane_in_phase (without_head self.old.machine self.old.state core lane) core lane Phase.Acted } }
     {
-        self.advance(core, lane, Phase::Acted);
+        match self.sealed_in(core, lane) {
+            Some(vault) => self.peis.act_head(vault),
+            None => self.peis.advance(core, lane, Phase::Acted),
+        }
+    }
+
+    /// The vault of the block of the PEI in a lane, where the PEI is sealed.
+    fn sealed_in(&self, core: CoreId, lane: Lane) -> Option<u32>
+        requires { IsLaneOf self.now.machine core lane }
+        ensures { result ≡ sealed_vault self.now.machine (look_in self.now.state core lane) }
+    {
+        let pei = self.peis.look(core, lane)?;
+        if pei.phase == Phase::Sealed {
+            Some(pei.block.0 % self.machine.vaults)
+        } else {
+            None
+        }
     }
 
     /// The PEI in a lane leaves: the lane is free, and no fence waits for the PEI. The condition is that it has acted.
@@ -251,8 +297,8 @@ impl Inflight {
         requires phase { phase_in self.old.state core lane ≡ Some Phase.Acted }
         ensures { self.new ≡ record self.old { state = without_lane self.old.state core lane } }
     {
-        if let Some(pei) = self.look(core, lane) {
-            drop_pei(&mut self.peis, pei.id);
+        if let Some(pei) = self.peis.look(core, lane) {
+            self.peis.remove(core, lane);
             forget_in_all(&mut self.fences, pei.id);
         }
     }
@@ -262,10 +308,17 @@ impl Inflight {
     pub fn conflict(&self, b: BlockNo, store: bool) -> Option<PeiId>
         ensures { result ≡ conflict self.now.state b store }
     {
-        self.peis
-            .iter()
-            .find(|pei| pei.block == b && (store || writes(pei.op)))
-            .map(|pei| pei.id)
+        self.peis.conflict(b, store)
+    }
+
+    /// The first PEI on the block of the PEI in a lane, of those issued after that. The condition is that the lane holds
+    /// a PEI.
+    pub fn next_on_block(&self, core: CoreId, lane: Lane) -> Option<PeiId>
+        requires lane { IsLaneOf self.now.machine core lane }
+        requires there { IsSome (look_in self.now.state core lane) }
+        ensures { result ≡ next_on_block self.now.state core lane }
+    {
+        self.peis.next_on_block(core, lane)
     }
 
     /// Begins the fence of a core, which waits for each writer of any core that is on its way now. The condition is
@@ -307,14 +360,13 @@ impl Inflight {
         self.fences[core.0 as usize].end();
     }
 
-    /// Brings the PEI in a lane to a phase.
+    /// Brings the PEI in a lane, which is not sealed, to a phase.
     fn advance(&mut self, core: CoreId, lane: Lane, phase: Phase)
-        requires { IsLaneOf self.old.machine core lane }
+        requires lane { IsLaneOf self.old.machine core lane }
+        requires there { IsUnsealed (look_in self.old.state core lane) }
         ensures { self.new ≡ record self.old { state = lane_in_phase self.old.state core lane phase } }
     {
-        if let Some(pei) = self.look(core, lane) {
-            change_phase(&mut self.peis, pei.id, phase);
-        }
+        self.peis.advance(core, lane, phase);
     }
 }
 

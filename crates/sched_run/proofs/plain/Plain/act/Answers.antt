@@ -1,4 +1,5 @@
-use Rattle.std.proofs.Common.{refl, ap, sym, ◌∙◌, arith, length}
+use Rattle.std.proofs.Common.{refl, Some, option_map, ap, sym, ◌∙◌, arith, length}
+use Rattle.pei_types.specs.declared.inflight_looks.PeiLook.{PeiLook}
 use Rattle.pei_types.specs.declared.inflight_looks.Phase.TheVariants as phase
 use Rattle.pei_types.specs.declared.events.EventKind.TheVariants as event
 use Rattle.pei_types.specs.Coherence.{look_in, in_phase}
@@ -32,7 +33,7 @@ invariant_of-self c =
     let i = c.self.inside
     in let p = c.args.pei.now
     in let here = ap (λ v. look_in v.state p.id.core p.lane) c.self.view_is ∙ c.requires.here.here
-    in kept_in_phase i (with_items i.words c.put_block.new.words) p.id phase.Acted i.inflight.buffers c.acted.new.self _ c.did.new.journal refl (c.acted.ensures ∙ ap (λ s. record i.inflight { state = s }) (phase_is i.inflight.state p.id.core p.lane p phase.Acted here)) c.did.ensures.journal c.self.invariant
+    in kept_in_phase i (with_items i.words c.put_block.new.words) p.id phase.Acted i.inflight.buffers c.acted.new.self _ c.did.new.journal refl (c.acted.ensures.host (ap (option_map (λ (q : PeiLook). q.phase)) here ∙ ap Some c.requires.here.phase) ∙ ap (λ s. record i.inflight { state = s }) (phase_is i.inflight.state p.id.core p.lane p phase.Acted here)) c.did.ensures.journal c.self.invariant
 
 pub returns-clause-went : goal.returns-clause-went
 returns-clause-went c =
@@ -40,7 +41,7 @@ returns-clause-went c =
     in let p = c.args.pei.now
     in let here = ap (λ v. look_in v.state p.id.core p.lane) c.self.view_is ∙ c.requires.here.here
     in went_on i (with_items i.words c.put_block.new.words) c.acted.new.self c.did.new.journal c.args.self.now (lane_of p) c.lane_of.result (event.Act p.id.seq c.apply-reply.result) c.did.result (in_phase i.inflight.state p.id phase.Acted) c.self.view_is c.lane_of.ensures c.did.ensures.event
-    (ap (λ x. x.state) (c.acted.ensures ∙ ap (λ s. record i.inflight { state = s }) (phase_is i.inflight.state p.id.core p.lane p phase.Acted here))) c.did.ensures.journal (sym (host_acts i.machine (host_state i.inflight.state) (lane_of p) p.id.seq c.apply-reply.result))
+    (ap (λ x. x.state) (c.acted.ensures.host (ap (option_map (λ (q : PeiLook). q.phase)) here ∙ ap Some c.requires.here.phase) ∙ ap (λ s. record i.inflight { state = s }) (phase_is i.inflight.state p.id.core p.lane p phase.Acted here))) c.did.ensures.journal (sym (host_acts i.machine (host_state i.inflight.state) (lane_of p) p.id.seq c.apply-reply.result))
     (refilled i.words c.put_block.new.words (c.put_block.auto.words ∙ ap length c.deref_mut.ensures.value)
     ∙ c.put_block.ensures
     ∙ ap (λ ws. with_block ws p.block c.apply-reply.new.block) c.deref_mut.ensures.value
