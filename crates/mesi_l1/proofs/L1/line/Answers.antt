@@ -1,0 +1,7 @@
+use Rattle.std.proofs.Common.{◌%◌, length, refl}
+use Rattle.mesi_l1.proofs.Looking.{content_read}
+use Rattle.mesi_l1.proofs.L1.line.Goals as goal
+
+pub returns : goal.returns
+returns c =
+    rw (← c.self.view_is) (content_read c.sets_follow.ensures c.self.inside.tags c.self.inside.lines.items c.self.invariant c.args.b (c.args.b.0 % length c.self.inside.tags.lists) c.place-slot.result c.index.result.now refl c.place-slot.ensures.within c.place-slot.ensures.range c.place-slot.ensures.at c.index.ensures)

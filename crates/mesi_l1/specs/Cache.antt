@@ -1,0 +1,95 @@
+-- What a private cache is seen as, and what each call makes of it.
+use Rattle.std.specs.Prelude.{◌≡◌, ℕ, ◌*◌, ◌%◌, Bool, if◌then◌else◌, List, [], ◌∷◌, length, map, find, replicate, Option, Some, None, option_map, slice_index_or, slice_set}
+use Rattle.std.specs.List.{list_any}
+use Rattle.pei_types.specs.declared.identifiers.Block.{Block}
+use Rattle.pei_types.specs.declared.identifiers.BlockNo.{BlockNo}
+use Rattle.pei_types.specs.declared.operations.Letter.{Letter}
+use Rattle.pei_types.specs.declared.operations.Letter.TheVariants as letter
+use Rattle.pei_types.specs.Blocks.{same_block}
+use Rattle.pei_types.specs.Recency.{change_at, list_at, without, to_front, victim}
+use Rattle.set_lists.specs.Placed.{IsOfSet}
+use Rattle.mesi_l1.specs.declared.lines.CopyLine.{CopyLine}
+
+-- How many lines a set has room for, the lines of each set, the most recent first, and the number of the block in each
+-- slot. A set has `ways` slots in a row.
+pub record Cache : Type 0 where
+  pub ways : ℕ
+  pub sets : List (List CopyLine)
+  pub slots : List (Option ℕ)
+
+abbrev pub empty_cache : ℕ → ℕ → Cache
+empty_cache sets ways = record { ways = ways; sets = replicate sets []; slots = replicate (sets * ways) None }
+
+-- ---- look-ups
+
+-- the set of a block, and its lines
+abbrev pub set_of : Cache → BlockNo → ℕ
+set_of v b = b.0 % length v.sets
+
+abbrev pub lines_of : Cache → BlockNo → List CopyLine
+lines_of v b = list_at v.sets (set_of v b)
+
+abbrev pub is_copy_of : BlockNo → CopyLine → Bool
+is_copy_of b x = same_block x.block b
+
+abbrev pub copy_of : Cache → BlockNo → Option CopyLine
+copy_of v b = find (is_copy_of b) (lines_of v b)
+
+-- the letter of a block, which is I where it has no line, and the content of its line
+abbrev pub letter_in : Option CopyLine → Letter
+letter_in None = letter.I
+letter_in (Some x) = x.letter
+
+abbrev pub content_in : Option CopyLine → Block
+content_in None = record { 0 = [] }
+content_in (Some x) = x.content
+
+abbrev pub letter_of : Cache → BlockNo → Letter
+letter_of v b = letter_in (copy_of v b)
+
+abbrev pub content_of : Cache → BlockNo → Block
+content_of v b = content_in (copy_of v b)
+
+-- the block that has to leave before a block may come: the last line of its set, where that is full and lacks it
+abbrev pub room_for : Cache → BlockNo → Option BlockNo
+room_for v b = if list_any (is_copy_of b) (lines_of v b) then None else option_map (λ x. x.block) (victim v.ways (lines_of v b))
+
+-- ---- effects
+
+abbrev pub with_set : Cache → BlockNo → (List CopyLine → List CopyLine) → Cache
+with_set v b change = record v { sets = change_at v.sets (set_of v b) change }
+
+-- the line of a block goes to the front
+abbrev pub with_touch : Cache → BlockNo → Cache
+with_touch v b = with_set v b (to_front (is_copy_of b))
+
+-- the block is in front, with this letter and content
+abbrev pub with_front : Cache → BlockNo → Letter → Block → Cache
+with_front v b l content = with_set v b (λ set. record { block = b; letter = l; content = content } ∷ without (is_copy_of b) set)
+
+-- the block's line has S, where it stands
+abbrev pub with_shared : Cache → BlockNo → Cache
+with_shared v b = with_set v b (map (λ x. if is_copy_of b x then record { block = x.block; letter = letter.S; content = x.content } else x))
+
+-- the set is without the block's line
+abbrev pub without_copy : Cache → BlockNo → Cache
+without_copy v b = with_set v b (without (is_copy_of b))
+
+-- ---- slots
+
+-- the number of the block in a slot, or none in a free one
+abbrev pub block_in : List (Option ℕ) → ℕ → Option ℕ
+block_in slots slot = slice_index_or slots slot None
+
+-- A block comes into a free slot of its set, and leaves the slot that it had; all others stay where they are.
+pub record ComesIn (old new : Cache) (b : BlockNo) : Type 0 where
+  pub slot : ℕ
+  pub own : IsOfSet old.ways (set_of old b) slot
+  pub free : block_in old.slots slot ≡ None
+  pub holds : block_in new.slots slot ≡ Some b.0
+  pub others : new.slots ≡ slice_set old.slots slot (Some b.0)
+
+pub record GoesOut (old new : Cache) (b : BlockNo) : Type 0 where
+  pub slot : ℕ
+  pub held : block_in old.slots slot ≡ Some b.0
+  pub others : new.slots ≡ slice_set old.slots slot None
