@@ -1,0 +1,38 @@
+-- What a cache is seen as, and what it keeps true of itself.
+use Rattle.std.specs.Prelude.{◌≡◌, ℕ, ◌%◌, false, List, length, replicate, Option, Some, slice_index_or}
+use Rattle.pei_types.specs.declared.operations.Mark.TheVariants as mark
+use Rattle.pei_types.specs.Coherence.{is_absent}
+use Rattle.set_lists.specs.Placed.{Placed, IsListed, IsPlaced, key_at}
+use Rattle.set_lists.specs.Laws.{held}
+use Rattle.llc.specs.declared.lines.HeldLine.{HeldLine}
+use Rattle.llc.specs.declared.Llc.TheInside.{Inside}
+use Rattle.llc.specs.Cache.{Cache}
+
+-- what a slot has where no line was ever put
+abbrev pub blank : HeldLine
+blank = record { block = record { 0 = 0 }; mark = mark.Absent; content = record { 0 = replicate 8 0 } }
+
+abbrev pub line_at : List HeldLine → ℕ → HeldLine
+line_at lines slot = slice_index_or lines slot blank
+
+-- the cache with these tags and lines
+abbrev pub cache_of : Placed → List HeldLine → Cache
+cache_of tags lines = record { ways = tags.ways; sets = held (line_at lines) tags.lists; slots = tags.keys }
+
+-- a line of a set: its key is its block's number, which belongs there, and it is present
+pub record IsLine (sets set : ℕ) (kept : Option ℕ) (x : HeldLine) : Type 0 where
+  pub key : kept ≡ Some x.block.0
+  pub home : x.block.0 % sets ≡ set
+  pub present : is_absent x.mark ≡ false
+
+-- there is a line for each slot, and each slot that is not free has its line
+pub record IsKept (tags : Placed) (lines : List HeldLine) : Type 0 where
+  pub room : length lines ≡ length tags.keys
+  pub placed : IsPlaced tags
+  pub each : (set slot : ℕ) → IsListed tags set slot → IsLine (length tags.lists) set (key_at tags.keys slot) (line_at lines slot)
+
+abbrev pub shown : Inside → Cache
+shown i = cache_of i.tags i.lines.items
+
+abbrev pub IsInOrder : Inside → Type 0
+IsInOrder i = IsKept i.tags i.lines.items
