@@ -1,0 +1,4 @@
+pub mod Looking
+pub mod Changing
+pub mod Keeping
+pub mod States
