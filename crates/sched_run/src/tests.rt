@@ -160,16 +160,17 @@ fn takes_turns_in_order(rt: HostRuntime) -> Result<(), Fail> {
         event(0, 0, EventKind::Out { value }),
         event(0, 0, EventKind::End { kind }),
     ];
+    let (none, all_but_the_end) = (&all[..0], &all[..10]);
     for (most, turns, events, end) in [
-        (0, 0, 0, None),
-        (40, 40, 10, None),
-        (1000, 41, 11, Some(kind)),
+        (0, 0, none, None),
+        (40, 40, all_but_the_end, None),
+        (1000, 41, &all[..], Some(kind)),
     ] {
         let run = run(rt.alloc(), &machine(1), &instrs, &Policy::RoundRobin, most)?;
         assert_eq!(rt; run.turns, turns);
         assert_eq!(rt; run.cores, [end, None, None, None, None, None, None, None]);
         assert_eq!(rt; run.fabric.machine(), machine(1));
-        assert_eq!(rt; run.fabric.into_journal().events(), &all[..events]);
+        assert_eq!(rt; run.fabric.into_journal().events(), events);
     }
 
     let instrs = [Instr::Li { rd: 1, n: 7 }, Instr::Out { ra: 1 }, Instr::Halt];
