@@ -1,8 +1,9 @@
 -- Loops that add a piece, or a mark, for each element of a list.
+use Rattle.std.proofs.lemmas.Bool.{ltb-true, ltb-false}
 use Rattle.std.proofs.lemmas.List.{append_assoc, append-nil}
 use Rattle.std.proofs.lemmas.Option.{slice_get_within, get_or_from_slice_get}
 use Rattle.std.proofs.Math.Seq.{drop-cons}
-use Rattle.std.proofs.Common.{◌≡◌, ℕ, suc, ◌+◌, Bool, true, false, ◌||◌, if◌then◌else◌, List, [], ◌∷◌, ◌++◌, drop, map, slice_get, flat_map, codes, decimal, Some, refl, sym, ◌∙◌, ap, arith}
+use Rattle.std.proofs.Common.{◌≡◌, ℕ, suc, ◌+◌, ◌<◌, nat_lt, Bool, true, false, ◌||◌, if◌then◌else◌, List, [], ◌∷◌, ◌++◌, drop, get_or, map, slice_get, flat_map, codes, decimal, Some, refl, sym, ◌∙◌, ap, subst, arith}
 use Rattle.std.specs.List.{list_any}
 use Rattle.pei_types.specs.declared.instructions.Instr.{Instr}
 use Rattle.pei_types.specs.Program.{Listing}
@@ -46,3 +47,16 @@ pub marked_on : {T : Type 0} (test : T → Bool) (xs : List T) (i : ℕ) (x : T)
     → (before || list_any test (drop i xs)) ≡ total → (now || list_any test (drop (i + 1) xs)) ≡ total
 marked_on test xs i x before now total at marked so_far =
     ap (λ b. b || list_any test (drop (i + 1) xs)) marked ∙ or_assoc before (test x) (list_any test (drop (i + 1) xs)) ∙ ap (λ ys. before || list_any test ys) (sym (next_got xs i x at)) ∙ so_far
+
+-- a fact of one element more
+abbrev pub AllBelow : {T : Type 0} → (T → Type 0) → ℕ → List T → Type 0
+AllBelow {T} P i xs = (k : ℕ) (d : T) → k < i → P (get_or xs k d)
+
+pub all_on : {T : Type 0} (P : T → Type 0) (xs : List T) (i : ℕ) (x : T) → slice_get xs i ≡ Some x → P x → AllBelow P i xs → AllBelow P (i + 1) xs
+all_on P xs i x at h so_far k d less = by_less (nat_lt k i) refl
+  where
+    by_less : (b : Bool) → nat_lt k i ≡ b → P (get_or xs k d)
+    by_less true e = so_far k d (ltb-true k i e)
+    by_less false e =
+        let same : i ≡ k = omega (arith, ltb-false k i e, less)
+        in subst P (sym (get_or_from_slice_get xs i x d at) ∙ ap (λ n. get_or xs n d) same) h

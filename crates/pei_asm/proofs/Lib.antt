@@ -24,3 +24,10 @@ pub mod ItemByItem
 pub mod OperandValues
 pub mod SourceItems
 pub mod AddingOn
+pub mod Uses
+pub mod LabelPlaces
+pub mod WrittenParts
+pub mod WrittenInstrs
+pub mod Reassembled
+pub mod CanonicalSpells
+pub mod MachinePrograms

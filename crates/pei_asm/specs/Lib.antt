@@ -15,3 +15,4 @@ pub mod Building
 pub mod Places
 pub mod Examples
 pub mod Named
+pub mod MachineNumbers

@@ -2,6 +2,7 @@
 
 ghost use Rattle.std.specs.Prelude.{◌≡◌, ◌++◌, ◌∷◌, [], codes, decimal, string_bytes, OnOk};
 ghost use Rattle.pei_asm.specs.Canonical.{block_operation, branch, instr_text, label, phrase, register, three_registers, two_and_number};
+ghost use Rattle.pei_asm.specs.MachineNumbers.{HasNumber};
 
 use itoa::Buffer;
 use pei_types::{Instr, OutOfMemory};
@@ -141,7 +142,8 @@ fn add_block_operation(
 
 /// Adds the text of an instruction.
 pub(crate) fn add_instr(text: &mut String, instr: Instr) -> Result<(), OutOfMemory>
-    ensures { OnOk result (string_bytes text.new ≡ string_bytes text.old ++ instr_text instr) }
+    ensures text { OnOk result (string_bytes text.new ≡ string_bytes text.old ++ instr_text instr) }
+    ensures number { HasNumber instr }
 {
     match instr {
         Instr::Li { rd, n } => add_one_and_number(text, "li", rd, n),

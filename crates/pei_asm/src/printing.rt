@@ -1,8 +1,11 @@
 //! The canonical text of a program.
 
-ghost use Rattle.std.specs.Prelude.{◌≡◌, ◌++◌, ◌∷◌, codes, decimal, flat_map, if◌then◌else◌, [], length, map, string_bytes, IfOk, OnOk};
+ghost use Rattle.std.specs.Prelude.{◌≡◌, ◌++◌, ◌∷◌, codes, decimal, flat_map, ◌<◌, ◌≤◌, if◌then◌else◌, [], length, map, string_bytes, All, IfOk, OnOk};
+ghost use Rattle.pei_types.specs.Program.{HasRegisters};
 ghost use Rattle.pei_asm.specs.Canonical.{IsPrintable, ask_line, canonical, entry_line, instr_lines, instr_text, label, last_line, line, listed, own_entry_lines, statistics_line, words_line};
+ghost use Rattle.pei_asm.specs.MachineNumbers.{HasNumber, HasNumbers, IsLineOfNumbers, IsNumber};
 ghost use Rattle.pei_asm.specs.Named.{HasNamed};
+ghost use Rattle.pei_asm.specs.Spelling.{Spells};
 
 use crate::named::named_places;
 use crate::pieces::{add, add_instr, add_label, add_number};
@@ -49,7 +52,8 @@ fn add_own_entries(text: &mut String, program: &Program) -> Result<(), OutOfMemo
 
 /// Adds numbers, each behind a comma.
 fn add_more_numbers(text: &mut String, numbers: &[u64]) -> Result<(), OutOfMemory>
-    ensures { OnOk result (string_bytes text.new ≡ string_bytes text.old ++ flat_map (λ n. codes ", " ++ decimal n) numbers.now) }
+    ensures text { OnOk result (string_bytes text.new ≡ string_bytes text.old ++ flat_map (λ n. codes ", " ++ decimal n) numbers.now) }
+    ensures numbers { All IsNumber numbers.now }
 {
     for n in numbers {
         add(text, ", ")?;
@@ -60,7 +64,8 @@ fn add_more_numbers(text: &mut String, numbers: &[u64]) -> Result<(), OutOfMemor
 
 /// Adds numbers, with a comma between each two.
 fn add_numbers(text: &mut String, first: u64, more: &[u64]) -> Result<(), OutOfMemory>
-    ensures { OnOk result (string_bytes text.new ≡ string_bytes text.old ++ listed (decimal first ∷ map decimal more.now)) }
+    ensures text { OnOk result (string_bytes text.new ≡ string_bytes text.old ++ listed (decimal first ∷ map decimal more.now)) }
+    ensures numbers { OnOk result (All IsNumber more.now) }
 {
     add_number(text, first)?;
     add_more_numbers(text, more)
@@ -68,7 +73,9 @@ fn add_numbers(text: &mut String, first: u64, more: &[u64]) -> Result<(), OutOfM
 
 /// Adds a line of initial words, from an address on.
 fn add_words(text: &mut String, addr: u64, words: &[u64]) -> Result<(), OutOfMemory>
-    ensures { OnOk result (string_bytes text.new ≡ string_bytes text.old ++ words_line (addr, words.now)) }
+    requires { 0 < length words.now }
+    ensures text { OnOk result (string_bytes text.new ≡ string_bytes text.old ++ words_line (addr, words.now)) }
+    ensures numbers { OnOk result (IsLineOfNumbers (addr, words.now)) }
 {
     add(text, ".data ")?;
     add_numbers(text, addr, words)?;
@@ -77,7 +84,8 @@ fn add_words(text: &mut String, addr: u64, words: &[u64]) -> Result<(), OutOfMem
 
 /// Adds the lines of initial words.
 fn add_lines(text: &mut String, program: &Program) -> Result<(), OutOfMemory>
-    ensures { OnOk result (string_bytes text.new ≡ string_bytes text.old ++ flat_map words_line program.now.lines) }
+    ensures text { OnOk result (string_bytes text.new ≡ string_bytes text.old ++ flat_map words_line program.now.lines) }
+    ensures numbers { OnOk result (All IsLineOfNumbers program.now.lines) }
 {
     for i in 0..program.lines() {
         let (addr, words) = program.line(i);
@@ -100,7 +108,8 @@ fn add_range(text: &mut String, name: &str, addr: u64, count: u64) -> Result<(),
 
 /// Adds the line of an ask.
 fn add_ask(text: &mut String, ask: Ask) -> Result<(), OutOfMemory>
-    ensures { OnOk result (string_bytes text.new ≡ string_bytes text.old ++ ask_line ask) }
+    ensures text { OnOk result (string_bytes text.new ≡ string_bytes text.old ++ ask_line ask) }
+    ensures numbers { HasNumbers ask }
 {
     match ask {
         Ask::Show { addr, count } => add_range(text, ".show", addr, count),
@@ -110,7 +119,8 @@ fn add_ask(text: &mut String, ask: Ask) -> Result<(), OutOfMemory>
 
 /// Adds the lines of asks.
 fn add_asks(text: &mut String, asks: &[Ask]) -> Result<(), OutOfMemory>
-    ensures { OnOk result (string_bytes text.new ≡ string_bytes text.old ++ flat_map ask_line asks.now) }
+    ensures text { OnOk result (string_bytes text.new ≡ string_bytes text.old ++ flat_map ask_line asks.now) }
+    ensures numbers { OnOk result (All HasNumbers asks.now) }
 {
     for ask in asks {
         add_ask(text, *ask)?;
@@ -144,7 +154,8 @@ fn add_instr_line(
     place: u32,
     instr: Instr,
 ) -> Result<(), OutOfMemory>
-    ensures { OnOk result (string_bytes text.new ≡ string_bytes text.old ++ line ((if named then label place ++ codes ": " else []) ++ instr_text instr)) }
+    ensures text { OnOk result (string_bytes text.new ≡ string_bytes text.old ++ line ((if named then label place ++ codes ": " else []) ++ instr_text instr)) }
+    ensures number { OnOk result (HasNumber instr) }
 {
     add_label_before(text, named, place)?;
     add_instr(text, instr)?;
@@ -154,7 +165,10 @@ fn add_instr_line(
 /// Adds the lines of the instructions.
 fn add_instrs(text: &mut String, program: &Program, places: &[bool]) -> Result<(), OutOfMemory>
     requires { HasNamed program.now places.now }
-    ensures { OnOk result (string_bytes text.new ≡ string_bytes text.old ++ instr_lines program.now 0 program.now.instrs) }
+    ensures text { OnOk result (string_bytes text.new ≡ string_bytes text.old ++ instr_lines program.now 0 program.now.instrs) }
+    ensures few { OnOk result (length program.now.instrs ≤ 65536) }
+    ensures registers { OnOk result (All HasRegisters program.now.instrs) }
+    ensures numbers { OnOk result (All HasNumber program.now.instrs) }
 {
     for pc in 0..program.len() {
         add_instr_line(text, places[pc as usize], pc, program.instr(pc))?;
@@ -178,9 +192,11 @@ fn add_last(text: &mut String, program: &Program, places: &[bool]) -> Result<(),
 
 /// Adds the canonical text of a program, whose named places are these.
 fn add_program(text: &mut String, program: &Program, places: &[bool]) -> Result<(), OutOfMemory>
+    requires printable { IsPrintable program.now }
     requires eight { length program.now.own_entries ≡ 8 }
     requires named { HasNamed program.now places.now }
-    ensures { OnOk result (string_bytes text.new ≡ string_bytes text.old ++ canonical program.now) }
+    ensures text { OnOk result (string_bytes text.new ≡ string_bytes text.old ++ canonical program.now) }
+    ensures spells { OnOk result (Spells (canonical program.now) program.now) }
 {
     add_common_entry(text, program.entry_line(None))?;
     add_own_entries(text, program)?;
@@ -198,11 +214,14 @@ fn add_program(text: &mut String, program: &Program, places: &[bool]) -> Result<
 /// where an entry, a branch or a jump names it, and the last line is a label alone where one names the place behind the
 /// last instruction. Operands have a comma and a space between them, numbers are unsigned decimals, and each line ends
 /// with a line feed. The program is printable where every place that it names is at most its number of instructions, as
-/// in each program that [`assemble`](crate::assemble) gives. `OutOfMemory` is the only error.
+/// in each program that [`assemble`](crate::assemble) gives. The text spells the program, and a text spells at most one:
+/// so `assemble` of the text gives the program again, wherever memory is found and the text is short enough for it.
+/// `OutOfMemory` is the only error.
 pub fn print(alloc: Global, program: &Program) -> Result<Text, OutOfMemory>
     requires printable { IsPrintable program.now }
     requires eight { length program.now.own_entries ≡ 8 }
     ensures canonical { IfOk result (λ t. t ≡ canonical program.now) }
+    ensures spells { IfOk result (λ t. Spells t program.now) }
 {
     let places = named_places(alloc, program)?;
     let mut text = String::new(alloc);
