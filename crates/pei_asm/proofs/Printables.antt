@@ -339,6 +339,7 @@ program_within lines proper =
     λ text. rw (as_many f (instruction_count lines) (place_below lines) lines proper) (place_below lines text)
     in let within = within_all f most below lines proper
     in record {
+      eight = refl;
       common = entry_within most (items_of lines) None within;
       own = All-from_recursion (λ e. IfSome e (λ pc. pc ≤ most)) (map (λ c. entry_among (items_of lines) (Some c)) (range_with_len 0 8)) (entries_within most (items_of lines) (range_with_len 0 8) within);
       targets = All-from_recursion (λ i. IfSome (target_of i) (λ to. to ≤ most)) (filter_map instruction_in (items_of lines)) (targets_within most (items_of lines) within);

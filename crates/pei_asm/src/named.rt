@@ -35,7 +35,6 @@ fn mark(places: &mut Vec<bool>, place: Option<u32>)
 /// Marks the places of the entries.
 fn mark_entries(places: &mut Vec<bool>, program: &Program)
     requires printable { IsPrintable program.now }
-    requires eight { length program.now.own_entries ≡ 8 }
     requires room { length places.old.items ≡ length program.now.instrs + 1 }
     ensures { Marks places.old.items places.new.items (λ k. list_any (is_at k) (program.now.common_entry ∷ program.now.own_entries)) }
 {
@@ -59,7 +58,6 @@ fn mark_targets(places: &mut Vec<bool>, program: &Program)
 /// For each place up to the one behind the last instruction whether it is named.
 pub(crate) fn named_places(alloc: Global, program: &Program) -> Result<Vec<bool>, OutOfMemory>
     requires printable { IsPrintable program.now }
-    requires eight { length program.now.own_entries ≡ 8 }
     ensures { IfOk result (λ places. HasNamed program.now places.items) }
 {
     let Ok(mut places) = vec![in alloc; false; program.len() as usize + 1] else {

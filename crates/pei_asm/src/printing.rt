@@ -193,7 +193,6 @@ fn add_last(text: &mut String, program: &Program, places: &[bool]) -> Result<(),
 /// Adds the canonical text of a program, whose named places are these.
 fn add_program(text: &mut String, program: &Program, places: &[bool]) -> Result<(), OutOfMemory>
     requires printable { IsPrintable program.now }
-    requires eight { length program.now.own_entries ≡ 8 }
     requires named { HasNamed program.now places.now }
     ensures text { OnOk result (string_bytes text.new ≡ string_bytes text.old ++ canonical program.now) }
     ensures spells { OnOk result (Spells (canonical program.now) program.now) }
@@ -219,7 +218,6 @@ fn add_program(text: &mut String, program: &Program, places: &[bool]) -> Result<
 /// `OutOfMemory` is the only error.
 pub fn print(alloc: Global, program: &Program) -> Result<Text, OutOfMemory>
     requires printable { IsPrintable program.now }
-    requires eight { length program.now.own_entries ≡ 8 }
     ensures canonical { IfOk result (λ t. t ≡ canonical program.now) }
     ensures spells { IfOk result (λ t. Spells t program.now) }
 {

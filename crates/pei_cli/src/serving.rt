@@ -1,6 +1,6 @@
 //! The top call for commands without threads.
 
-ghost use Rattle.std.specs.Prelude.{◌≡◌, ◌≢◌, ◌≤◌, ◌↔◌, ℕ, List, None, Some, Err, length, IfSome, IfOk, IfErr};
+ghost use Rattle.std.specs.Prelude.{◌≡◌, ◌≢◌, ◌≤◌, ◌↔◌, ℕ, List, None, Some, Err, IfSome, IfOk, IfErr};
 ghost use Rattle.pei_io.specs.Outside.{LeavesOthers};
 ghost use Rattle.pei_io.specs.declared.files.Which.{Which};
 ghost use Rattle.sched_run.specs.Choosing.{HasActorsOf};
@@ -116,8 +116,7 @@ fn print_file<F: Files, K: Sink>(
 
 /// Writes the canonical text of a program.
 fn print_program<K: Sink>(alloc: Global, program: &Program, sink: &mut K) -> Result<PlainEnd, Fault>
-    requires printable { IsPrintable program.now }
-    requires eight { length program.now.own_entries ≡ 8 }
+    requires { IsPrintable program.now }
     ensures prints { PrintsProgram program.now (K.written sink.old) (K.written sink.new) (K.faults sink.old) (K.faults sink.new) result }
     ensures untouched { IfErr result (λ f. f ≢ Fault.WriteFault → sink.new ≡ sink.old) }
     ensures rising { K.faults sink.old ≤ K.faults sink.new }
@@ -136,7 +135,6 @@ fn read_program<F: Files>(alloc: Global, files: &mut F, name: &str) -> Result<Pr
     requires { F.name files.old Which.Program ≡ None }
     ensures reads { ReadsProgram (F.held files.old Which.Program name.now) (F.taken files.new Which.Program) (F.faults files.old Which.Program) (F.faults files.new Which.Program) result }
     ensures printable { IfOk result IsPrintable }
-    ensures eight { IfOk result (λ p. length p.own_entries ≡ 8) }
     ensures named { result ≢ Err Fault.OutOfMemory → F.name files.new Which.Program ≡ Some name.now }
     ensures rising { F.faults files.old Which.Program ≤ F.faults files.new Which.Program }
     ensures others { LeavesOthers F.held F.left F.name F.taken F.faults Which.Program files.old files.new }
