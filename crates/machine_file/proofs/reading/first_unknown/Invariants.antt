@@ -1,0 +1,9 @@
+use Rattle.std.proofs.Common.{◌≡◌}
+use Rattle.toml.specs.View.{members_view}
+use Rattle.machine_file.specs.Machine.{unknown_key}
+use Rattle.machine_file.proofs.reading.first_unknown.Given as goal
+
+abbrev pub invariant-loop-key : goal.invariant-loop-key
+invariant-loop-key l =
+    (goal.iterator-loop-key).can_next l.key-iterator × (goal.iterator-loop-key).is_finite l.key-iterator
+    × (unknown_key (members_view l.key-iterator) ≡ unknown_key (members_view l.table.entries))

@@ -1,0 +1,5 @@
+pub mod Keys
+pub mod Machine
+pub mod Faults
+pub mod Laws
+pub mod Examples
