@@ -12,9 +12,9 @@ use Rattle.shared_table.specs.Claims.{with_claim}
 use Rattle.shared_table.specs.Own.{Has, IsWithin, IsOwn, IsSteady, slots_of, place_of}
 use Rattle.shared_table.proofs.Totals.{at_inside}
 
-pub lane_bound : (v : Knowledge) (lane : ℕ) (c : Claim) (words : ℕ) (u : Knowledge) (xs : List Claim) → Has v lane c → u ≡ v → IsOwn words u xs → lane - 1 < 4
-lane_bound v lane c words u xs has same own = let n : lane - 1 < length v.claims = at_inside v.claims (lane - 1) c has.1 in
-    let l : length u.claims ≡ length v.claims = ap (λ (x : Knowledge). length x.claims) same in let k : length u.claims ≡ length xs = ap length own.0 in let f = own.1 in omega arith
+pub lane_bound : (lanes : List Claim) (lane : ℕ) (c : Claim) (words : ℕ) (u : Knowledge) (xs : List Claim) → Has lanes lane c → u.claims ≡ lanes → IsOwn words u xs → lane - 1 < 4
+lane_bound lanes lane c words u xs has same own = let n : lane - 1 < length lanes = at_inside lanes (lane - 1) c has.1 in
+    let l : length u.claims ≡ length lanes = ap length same in let k : length u.claims ≡ length xs = ap length own.0 in let f = own.1 in omega arith
 
 -- the lane at place i gets a claim
 pub lanes_set : (words words' : ℕ) (u w : Knowledge) (xs : List Claim) (i : ℕ) (c : Claim) → words' ≡ words → w.claims ≡ set u.claims i c → IsWithin (words - 9) c → IsOwn words u xs → IsOwn words' w (set xs i c)
@@ -28,16 +28,16 @@ pub lanes_stay : (words words' : ℕ) (u w : Knowledge) (xs : List Claim) → wo
 lanes_stay words words' u w xs wide is own = (is ∙ own.0, own.1, λ j d e. subst (λ (n : ℕ). IsWithin (n - 9) d) (sym wide) (own.2 j d e))
 
 -- the claim in the array
-pub claim_is : (v : Knowledge) (lane : ℕ) (c d : Claim) (words : ℕ) (u : Knowledge) (xs : List Claim) → Has v lane c → u ≡ v → IsOwn words u xs → get_or xs (lane - 1) d ≡ c
-claim_is v lane c d words u xs has same own = let e : get_elem? xs (lane - 1) ≡ some c = subst (λ (l : List Claim). get_elem? l (lane - 1) ≡ some c) (sym (ap (λ (x : Knowledge). x.claims) same) ∙ own.0) has.1 in at_default xs (lane - 1) c d e
+pub claim_is : (lanes : List Claim) (lane : ℕ) (c d : Claim) (words : ℕ) (u : Knowledge) (xs : List Claim) → Has lanes lane c → u.claims ≡ lanes → IsOwn words u xs → get_or xs (lane - 1) d ≡ c
+claim_is lanes lane c d words u xs has same own = let e : get_elem? xs (lane - 1) ≡ some c = subst (λ (l : List Claim). get_elem? l (lane - 1) ≡ some c) (sym same ∙ own.0) has.1 in at_default xs (lane - 1) c d e
   where
     at_default : (l : List Claim) (i : ℕ) (a b : Claim) → get_elem? l i ≡ some a → get_or l i b ≡ a
     at_default [] i a b e = absurd (some-ne-none a (sym e))
     at_default (x ∷ l) zero a b e = some-injective x a e
     at_default (x ∷ l) (suc i) a b e = at_default l i a b e
 
-pub claim_within : (v : Knowledge) (lane entries : ℕ) (c : Claim) (words : ℕ) (u : Knowledge) (xs : List Claim) → Has v lane c → u ≡ v → words ≡ entries + 9 → IsOwn words u xs → IsWithin entries c
-claim_within v lane entries c words u xs has same wide own = let e : get_elem? xs (lane - 1) ≡ some c = subst (λ (l : List Claim). get_elem? l (lane - 1) ≡ some c) (sym (ap (λ (x : Knowledge). x.claims) same) ∙ own.0) has.1 in
+pub claim_within : (lanes : List Claim) (lane entries : ℕ) (c : Claim) (words : ℕ) (u : Knowledge) (xs : List Claim) → Has lanes lane c → u.claims ≡ lanes → words ≡ entries + 9 → IsOwn words u xs → IsWithin entries c
+claim_within lanes lane entries c words u xs has same wide own = let e : get_elem? xs (lane - 1) ≡ some c = subst (λ (l : List Claim). get_elem? l (lane - 1) ≡ some c) (sym same ∙ own.0) has.1 in
     let n : words - 9 ≡ entries = omega arith in subst (λ (m : ℕ). IsWithin m c) n (own.2 (lane - 1) c e)
 
 pub entry_below : (entries : ℕ) (c : Claim) → IsWithin entries c → c ≢ Free → place_of c < entries
@@ -46,7 +46,7 @@ entry_below entries (Announced d) w n = w
 entry_below entries (Held d m) w n = w
 
 -- the lane has what a step gave it
-pub has_put : (v : Knowledge) (lane : ℕ) (c d : Claim) → Has v lane c → Has (with_claim v (lane - 1) d) lane d
+pub has_put : (v : Knowledge) (lane : ℕ) (c d : Claim) → Has v.claims lane c → Has (with_claim v (lane - 1) d).claims lane d
 has_put v lane c d has = (has.0, set_here v.claims (lane - 1) d (at_inside v.claims (lane - 1) c has.1))
 
 -- a step on a directory word leaves a seat steady

@@ -107,7 +107,7 @@ seat_room : (g : Claim → ℕ) → ((c : Claim) → g c ≤ 1) → (v : Knowled
 seat_room g small v = let a = total_length g small v.claims in omega arith
 
 -- a word that was looked at has what a grant takes
-pub ready : (v : Knowledge) (lane e : ℕ) (mode : Mode) (n : ℕ) → Has v lane (before_grant e mode) → Shows v e n → (t : Claims) × IsPacked t × (n ≡ word_of_claims t) × IsReady t mode
+pub ready : (v : Knowledge) (lane e : ℕ) (mode : Mode) (n : ℕ) → Has v.claims lane (before_grant e mode) → Shows v e n → (t : Claims) × IsPacked t × (n ≡ word_of_claims t) × IsReady t mode
 ready v lane e Reader n has shown = let t = shown.0 in let a = shown.2 in let b = shown.3 in let c = shown.4 in (t, (omega arith, omega arith, omega arith), shown.1, omega arith)
 ready v lane e Writer n has shown = let t = shown.0 in let a = shown.2 in let b = shown.3 in let c = shown.4 in let d = shown.5 in let o = total_at (waits e) v.claims (lane - 1) (Announced e) has.1 in let h = here e in
     (t, (omega arith, omega arith, omega arith), shown.1, omega arith)
@@ -198,12 +198,12 @@ module _ {S : Type 0} (log : S → List Event) (active : S → List Active) (k :
           let z = views_set (waits e) s.views id v w i Free (Announced e) at lane refl in let p = r.counts.packed e inside in let q = r.counts.exclusive e inside in let t = packed s r e inside in let o = here e in
           (w, keeps, tt, changed s r e id i _ me.1 v w Free (Announced e) inside at lane refl refl (about_free e) (about_announced e) (idle s r at Free lane (λ d m q. cc)) (omega arith) (omega arith, λ h. let u = q.1 (omega arith) in omega arith), (sym is, refl))
 
-      quiets : (s : St S) → Ruled log active k s → get_elem? s.views id ≡ some me.0 → (c : Claim) → get_elem? me.0.claims i ≡ some c → IsQuiet me.0 (i + 1) c → (j : ℕ) (a : Active) → get_elem? me.0.side.diary.active j ≡ some a → a.lane.0 - 1 ≢ i
+      quiets : (s : St S) → Ruled log active k s → get_elem? s.views id ≡ some me.0 → (c : Claim) → get_elem? me.0.claims i ≡ some c → IsQuiet me.0.side.diary.active (i + 1) c → (j : ℕ) (a : Active) → get_elem? me.0.side.diary.active j ≡ some a → a.lane.0 - 1 ≢ i
       quiets s r at Free lane q = idle s r at Free lane (λ d m h. cc)
       quiets s r at (Announced x) lane q = idle s r at (Announced x) lane (λ d m h. cc)
       quiets s r at (Held x m) lane q = λ j a e same. let h = (r.claimed id me.0 at j a e).0 in q j a e (omega arith)
 
-      pub frees : (c : Claim) (amount : ℕ) → get_elem? me.0.claims i ≡ some c → On e c → amount ≡ weight c → IsQuiet me.0 (i + 1) c → aim ≡ with_claim me.0 i Free
+      pub frees : (c : Claim) (amount : ℕ) → get_elem? me.0.claims i ≡ some c → On e c → amount ≡ weight c → IsQuiet me.0.side.diary.active (i + 1) c → aim ≡ with_claim me.0 i Free
           → Allows (Ruled log active k) slots id me (e + 9) (λ n. (n + (2 ^ 64 - amount)) % 2 ^ 64) (moved aim (step slots (e + 9) amount 0 none) me)
       frees c amount lane on weighs_so quiet is s r _ at small = let v : Knowledge = me.0 in let w : Knowledge = with_claim v i Free in
           let x = views_set (reads e) s.views id v w i c Free at lane refl in let y = views_set (writes e) s.views id v w i c Free at lane refl in

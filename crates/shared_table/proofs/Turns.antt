@@ -66,7 +66,7 @@ module _ {S : Type 0} (log : S → List Event) (active : S → List Active) (k :
       let t = total_two g v.claims i n c d (apart q) lane (subst (λ (u : Knowledge). get_elem? u.claims n ≡ some d) is lane') in let u = total_at (of_seat g) views id v at in omega arith)
       (λ q. let t = total_two (of_seat g) views id j v w (λ h. q (sym h)) at at' in let a = total_at g v.claims i c lane in let b = total_at g w.claims n d lane' in omega arith)
 
-  clear : (s : St S) (r : Ruled log active k s) (id : ℕ) (v : Knowledge) → get_elem? s.views id ≡ some v → Each (λ _ c. IsWithin k.entries c) v.claims → IsClear v r.slotted.a
+  clear : (s : St S) (r : Ruled log active k s) (id : ℕ) (v : Knowledge) → get_elem? s.views id ≡ some v → Each (λ _ c. IsWithin k.entries c) v.claims → IsClear v.side.name.core v.claims r.slotted.a
   clear s r id v at within i a e lane ent m has same apart = ⊎_elim
       (λ (t : (j : ℕ) × (u : Side) × (get_elem? (map side_of s.views) j ≡ some u) × (u.name.core ≡ a.core.0)).
       let w = at_unmap s.views t.0 t.1 t.2 in let f = (r.slotted.fits t.0 t.1 t.2).2 in
@@ -115,7 +115,7 @@ module _ {S : Type 0} (log : S → List Event) (active : S → List Active) (k :
           ap (λ hs. get_elem? hs 0) p.2,
           subst (λ (z : Bool × List (maybe.Option (Option S))). Ruled log active k record { words = set s.words 0 (either z.0 c n); homes = z.1; views = set s.views id w }) (λ j. (sym (eq-eqb n 0 h) j, ap (λ hs. set hs 0 none) (sym p.2) j))
               (turned s r id c (none ∷ []) v w at refl refl (takes_slot log active k.entries k.cores n s.homes (map side_of s.views) id v.side r.slotted (at_map side_of s.views id v at) here' x p.3 p.4 p.5) (r.claimed id v at)),
-          ((λ _. (x, refl, refl, (subst (λ (z : List Event × List Active). Fits z.0 z.1 v.side.name.core v.side.diary) (λ j. (sym p.3 j, sym p.4 j)) (r.slotted.fits id v.side (at_map side_of s.views id v at)), subst (IsClear v) (sym p.4) (clear s r id v at within), p.4 ∙ r.slotted.whole ∙ ap (active_in k.entries) (sym p.3)))), (λ q. absurd (q h))),
+          ((λ _. (x, refl, refl, (subst (λ (z : List Event × List Active). Fits z.0 z.1 v.side.name.core v.side.diary) (λ j. (sym p.3 j, sym p.4 j)) (r.slotted.fits id v.side (at_map side_of s.views id v at)), subst (IsClear v.side.name.core v.claims) (sym p.4) (clear s r id v at within), p.4 ∙ r.slotted.whole ∙ ap (active_in k.entries) (sym p.3)))), (λ q. absurd (q h))),
         ))
         (λ (p : IsOut log active n s.homes (map side_of s.views) r.slotted.l r.slotted.a). absurd (let q = p.4 in omega arith))
         r.slotted.place)

@@ -4,6 +4,7 @@ use mathlib.Core.Option.{some}
 use lib.ListN.{get_elem?}
 use Rattle.shared_table.specs.declared.claims.Knowledge.{Knowledge}
 use Rattle.shared_table.specs.Place.{SeatView}
+use Rattle.shared_table.specs.Parts.{turn}
 use Rattle.shared_table.specs.Claims.{gathering}
 
 -- what it knows then
@@ -13,4 +14,4 @@ gather_all v (s ∷ ss) = gather_all (gathering v s.knows) ss
 
 -- none of the seats has the slot
 abbrev pub AllIdle : List SeatView → Type 0
-AllIdle xs = (i : ℕ) (s : SeatView) → get_elem? xs i ≡ some s → s.knows.side.turn ≡ false
+AllIdle xs = (i : ℕ) (s : SeatView) → get_elem? xs i ≡ some s → turn s ≡ false

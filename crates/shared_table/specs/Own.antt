@@ -10,16 +10,16 @@ use Rattle.shared_table.specs.declared.claims.Claim.TheVariants.{Free, Announced
 use Rattle.shared_table.specs.declared.claims.Knowledge.{Knowledge}
 
 -- the lane has this claim
-abbrev pub Has : Knowledge → ℕ → Claim → Type 0
-Has v lane c = (0 < lane) × (get_elem? v.claims (lane - 1) ≡ some c)
+abbrev pub Has : List Claim → ℕ → Claim → Type 0
+Has lanes lane c = (0 < lane) × (get_elem? lanes (lane - 1) ≡ some c)
 
 -- the lane holds a claim
-abbrev pub IsHolding : Knowledge → ℕ → Type 0
-IsHolding v lane = (e : ℕ) × (m : Mode) × Has v lane (Held e m)
+abbrev pub IsHolding : List Claim → ℕ → Type 0
+IsHolding lanes lane = (e : ℕ) × (m : Mode) × Has lanes lane (Held e m)
 
 -- the lane is announced
-abbrev pub IsWaiting : Knowledge → ℕ → Type 0
-IsWaiting v lane = (e : ℕ) × Has v lane (Announced e)
+abbrev pub IsWaiting : List Claim → ℕ → Type 0
+IsWaiting lanes lane = (e : ℕ) × Has lanes lane (Announced e)
 
 -- the claim is on one of n entries, if on any
 abbrev pub IsWithin : ℕ → Claim → Type 0
@@ -31,15 +31,15 @@ IsWithin n (Held d m) = d < n
 abbrev pub IsOwn : ℕ → Knowledge → List Claim → Type 0
 IsOwn words v xs = (v.claims ≡ xs) × (length xs ≡ 4) × ((i : ℕ) (c : Claim) → get_elem? xs i ≡ some c → IsWithin (words - 9) c)
 
--- no active PEI is in the lane
-abbrev pub IsIdle : Knowledge → ℕ → Type 0
-IsIdle v lane = (j : ℕ) (a : Active) → get_elem? v.side.diary.active j ≡ some a → a.lane.0 ≢ lane
+-- none of these active PEIs is in the lane
+abbrev pub IsIdle : List Active → ℕ → Type 0
+IsIdle entered lane = (j : ℕ) (a : Active) → get_elem? entered j ≡ some a → a.lane.0 ≢ lane
 
--- the lane's claim may be given back
-abbrev pub IsQuiet : Knowledge → ℕ → Claim → Type 0
-IsQuiet v lane Free = Unit {0}
-IsQuiet v lane (Announced d) = Unit {0}
-IsQuiet v lane (Held d m) = IsIdle v lane
+-- the lane's claim may be given back, with these active PEIs
+abbrev pub IsQuiet : List Active → ℕ → Claim → Type 0
+IsQuiet entered lane Free = Unit {0}
+IsQuiet entered lane (Announced d) = Unit {0}
+IsQuiet entered lane (Held d m) = IsIdle entered lane
 
 -- the slots that a seat has: with the slot out, an empty one
 abbrev pub slots_of : {S : Type 0} → Bool → List (ℕ × Option S)

@@ -1,11 +1,13 @@
--- The parts of what a seat knows, each by its name.
-use Rattle.std.specs.Prelude.{ℕ, ◌-◌, Bool, List}
+-- The parts of what a seat knows, each by its name, and how a step changes them. The table that it is of is the field
+-- `table`, as it is of a table and of a list of seats. A contract names a seat's parts by these words alone.
+use Rattle.std.specs.Prelude.{◌≡◌, ℕ, ◌+◌, ◌-◌, Bool, List}
 use Rattle.pei_types.specs.declared.events.Event.{Event}
 use Rattle.shared_table.specs.declared.claims.Active.{Active}
 use Rattle.shared_table.specs.declared.claims.Claim.{Claim}
 use Rattle.shared_table.specs.declared.claims.Look.{Look}
 use Rattle.shared_table.specs.Place.{SeatView}
-use Rattle.shared_table.specs.Claims.{with_claim, with_slot, given_back}
+use Rattle.shared_table.specs.Claims.{with_claim, with_look, with_slot, given_back}
+use Rattle.shared_table.specs.Diaries.{events_of, active_of, StartsWith}
 
 -- the number of its core
 abbrev pub core_number : SeatView → ℕ
@@ -51,6 +53,10 @@ moves s = s.knows.moves
 abbrev pub lane_changed : SeatView → ℕ → Claim → SeatView
 lane_changed s lane c = record s { knows = with_claim s.knows (lane - 1) c }
 
+-- a seat that loaded the word of the entry e once, for a try with these two words
+abbrev pub look_made : SeatView → ℕ → ℕ → ℕ → SeatView
+look_made s e loaded found = record s { knows = record (with_look s.knows e loaded found) { looks = s.knows.looks + 1 } }
+
 -- a seat that took the slot, whose value has this log and these active PEIs
 abbrev pub slot_taken : SeatView → List Event → List Active → SeatView
 slot_taken s log as_lent = record s { knows = with_slot s.knows log as_lent }
@@ -58,3 +64,8 @@ slot_taken s log as_lent = record s { knows = with_slot s.knows log as_lent }
 -- a seat that gave the slot back so
 abbrev pub slot_given : SeatView → List Event → List Active → SeatView
 slot_given s log left = record s { knows = given_back s.knows log left }
+
+-- The log has of the seat's core the events that the seat has, and begins with the log that the seat saw. Of the active
+-- PEIs, those of its core are the seat's.
+abbrev pub FitsSeat : List Event → List Active → SeatView → Type 0
+FitsSeat log entered s = (events_of (core_number s) log ≡ mine s) × StartsWith log (seen s) × (active_of (core_number s) entered ≡ active s)

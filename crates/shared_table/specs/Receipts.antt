@@ -3,6 +3,7 @@ use Rattle.std.specs.Prelude.{ℕ, List, [], ◌∷◌, map}
 use Rattle.pei_types.specs.declared.events.Event.{Event}
 use Rattle.shared_table.specs.declared.claims.Gathered.{Gathered}
 use Rattle.shared_table.specs.declared.claims.Knowledge.{Knowledge}
+use Rattle.shared_table.specs.Parts.{core_number, mine}
 use Rattle.shared_table.specs.Place.{SeatView}
 
 -- a core, and the events of its seat
@@ -14,7 +15,7 @@ abbrev pub account_of : Knowledge → Account
 account_of v = record { core = v.side.name.core; events = v.side.diary.mine }
 
 abbrev pub seat_account : SeatView → Account
-seat_account s = account_of s.knows
+seat_account s = record { core = core_number s; events = mine s }
 
 abbrev pub gathered_account : Gathered → Account
 gathered_account g = record { core = g.core; events = g.diary.mine }

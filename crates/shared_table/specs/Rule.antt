@@ -8,6 +8,7 @@ use Rattle.shared_table.specs.declared.claims.Active.{Active}
 use Rattle.pei_types.specs.declared.operations.Mode.{Mode}
 use Rattle.pei_types.specs.declared.operations.Mode.TheVariants.{Reader}
 use Rattle.pei_types.specs.Claims.{Claims, word_of_claims}
+use Rattle.shared_table.specs.declared.claims.Claim.{Claim}
 use Rattle.shared_table.specs.declared.claims.Claim.TheVariants.{Held}
 use Rattle.shared_table.specs.declared.claims.Side.{Side}
 use Rattle.shared_table.specs.declared.claims.Knowledge.{Knowledge}
@@ -51,13 +52,13 @@ first_view k = new_seat record { core = 0; next = 1; spare = k.cores - 1 }
 abbrev pub Shows : Knowledge → ℕ → ℕ → Type 0
 Shows v e n = (t : Claims) × (n ≡ word_of_claims t) × (t.readers ≤ 32) × (t.writers ≤ 1) × (t.waiting ≤ 32) × (of_seat (waits e) v ≤ t.waiting)
 
--- no active PEI of another lane conflicts with a claim of the seat
-abbrev pub IsClear : Knowledge → List Active → Type 0
-IsClear v active = (i : ℕ) (a : Active) → get_elem? active i ≡ some a → (lane e : ℕ) (m : Mode) → Has v lane (Held e m) → a.entry ≡ e → ((a.core.0 ≡ v.side.name.core) × (a.lane.0 ≡ lane) → ⊥) → (a.mode ≡ Reader) × (m ≡ Reader)
+-- no active PEI of another lane conflicts with a claim that the core's lanes hold
+abbrev pub IsClear : ℕ → List Claim → List Active → Type 0
+IsClear core lanes active = (i : ℕ) (a : Active) → get_elem? active i ≡ some a → (lane e : ℕ) (m : Mode) → Has lanes lane (Held e m) → a.entry ≡ e → ((a.core.0 ≡ core) × (a.lane.0 ≡ lane) → ⊥) → (a.mode ≡ Reader) × (m ≡ Reader)
 
 -- what a seat that takes the slot learns: its own events and active PEIs, that none excludes its claims, and that these are all of the log
 abbrev pub Learns : ℕ → Knowledge → List Event → List Active → Type 0
-Learns entries v log active = Fits log active v.side.name.core v.side.diary × IsClear v active × (active ≡ active_in entries log)
+Learns entries v log active = Fits log active v.side.name.core v.side.diary × IsClear v.side.name.core v.claims active × (active ≡ active_in entries log)
 
 -- a seat of the table with its slots
 abbrev pub Sat : Type 0 → Type 0

@@ -5,6 +5,7 @@ ghost use lib.ListN.{get_elem?};
 ghost use Rattle.shared_table.specs.Claims.{gathering, once_gone};
 ghost use Rattle.shared_table.specs.Closing.{AllIdle, gather_all};
 ghost use Rattle.shared_table.specs.Diaries.{Fits};
+ghost use Rattle.shared_table.specs.Parts.{turn, FitsSeat};
 ghost use Rattle.shared_table.specs.Place.{SeatView, AllOf};
 ghost use Rattle.shared_table.specs.declared.claims.Gathered.{Gathered};
 ghost use Rattle.shared_table.specs.Receipts.{seat_account};
@@ -36,7 +37,7 @@ impl<S: Shared> SharedTable<S> {
     fn gather_seat(&self, first: &mut Place<S>, other: CoreSeat<S>)
         requires table { (first.old.table_id ≡ self.now.table) × (other.table ≡ self.now.table) }
         requires steps { first.old.me.0.side.gone ≡ false }
-        requires idle { other.knows.side.turn ≡ false }
+        requires idle { turn other ≡ false }
         ensures same { first.new.table_id ≡ first.old.table_id }
         ensures view { first.new.me ≡ (gathering first.old.me.0 other.knows, first.old.me.1) }
         ensures one { other.knows.side.share ≡ 1 }
@@ -71,7 +72,7 @@ impl<S: Shared> SharedTable<S> {
         requires table { seats.table ≡ self.table }
         requires all { length seats.list ≡ self.cores }
         requires idle { AllIdle seats.list }
-        ensures seen { (i : ℕ) (s : SeatView) → get_elem? seats.list i ≡ some s → Fits (S.log result.0) (S.active result.0) s.knows.side.name.core s.knows.side.diary }
+        ensures seen { (i : ℕ) (s : SeatView) → get_elem? seats.list i ≡ some s → FitsSeat (S.log result.0) (S.active result.0) s }
         ensures receipt { result.1 ≡ map seat_account seats.list }
     {
         let _ = &self.table;

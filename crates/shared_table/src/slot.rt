@@ -4,8 +4,8 @@ ghost use Rattle.shared_table.specs.Actives.{active_in};
 ghost use Rattle.shared_table.specs.Claims.{with_slot, given_back};
 ghost use Rattle.shared_table.specs.Diaries.{Claimed, active_of};
 ghost use Rattle.shared_table.specs.Own.{IsOwn};
-ghost use Rattle.shared_table.specs.Parts.{core_number, claims, seen, turn, lent, slot_taken, slot_given};
-ghost use Rattle.shared_table.specs.Rule.{Learns};
+ghost use Rattle.shared_table.specs.Parts.{core_number, claims, seen, turn, lent, slot_taken, slot_given, FitsSeat};
+ghost use Rattle.shared_table.specs.Rule.{IsClear, Learns};
 ghost use Rattle.shared_table.specs.Slot.{Returns, Grows, SameOthers};
 
 use crate::claims::Claim;
@@ -77,13 +77,15 @@ impl<S: Shared> SharedTable<S> {
     /// Waits for the slot, with pauses between two tries, and takes the value out of it.
     ///
     /// The seat does not have the slot. The log of the value begins with the log that the seat last saw, and has of
-    /// this core just the events that the seat has. No active PEI of another lane conflicts with a claim that the seat
+    /// this core just the events that the seat has. Its active PEIs are those with an Enter and no Leave in its log. No active PEI of another lane conflicts with a claim that the seat
     /// holds. Nothing says that the call returns.
     pub fn hold<R: Wait>(&self, rt: &R, seat: &mut CoreSeat<S>) -> Held<S>
         requires table { seat.old.table ≡ self.now.table }
         requires slot { turn seat.old ≡ false }
         ensures seat { seat.new ≡ slot_taken seat.old (S.log result.value) (S.active result.value) }
-        ensures learns { Learns self.now.entries seat.old.knows (S.log result.value) (S.active result.value) }
+        ensures fits { FitsSeat (S.log result.value) (S.active result.value) seat.old }
+        ensures clear { IsClear (core_number seat.old) (claims seat.old) (S.active result.value) }
+        ensures whole { S.active result.value ≡ active_in self.now.entries (S.log result.value) }
     {
         let backoff = Backoff::new();
         for _ in rt.forever() {

@@ -12,7 +12,7 @@ ghost use Rattle.shared_table.specs.Claims.{weight, before_grant, with_claim, wi
 ghost use Rattle.shared_table.specs.Rule.{Shows, first_view};
 ghost use Rattle.shared_table.specs.Place.{seat_view, all_seats};
 ghost use Rattle.shared_table.specs.Own.{Has, IsHolding, IsWaiting, IsWithin, IsIdle, IsQuiet, place_of};
-ghost use Rattle.shared_table.specs.Parts.{core_number, turn, lane_changed};
+ghost use Rattle.shared_table.specs.Parts.{core_number, claims, active, turn, lane_changed};
 ghost use Rattle.shared_table.specs.Seats.{Answers};
 ghost use Rattle.shared_table.specs.declared.claims.Claim.{Claim};
 ghost use Rattle.shared_table.specs.declared.claims.Claim.TheVariants.{Free, Announced, Held};
@@ -195,7 +195,7 @@ impl<S: Shared> SharedTable<S> {
     fn announce_at<B: Aim>(&self, seat: &mut Place<S>, lane: Lane, entry: u32)
         requires table { seat.old.table_id ≡ self.now.table }
         requires entry { entry < self.now.entries }
-        requires lane { Has seat.old.me.0 lane.0 Free }
+        requires lane { Has seat.old.me.0.claims lane.0 Free }
         requires aim { B.aim ≡ with_claim seat.old.me.0 (lane.0 - 1) (Announced entry) }
         ensures same { seat.new.table_id ≡ seat.old.table_id }
         ensures view { seat.new.me ≡ (B.aim, seat.old.me.1) }
@@ -207,8 +207,8 @@ impl<S: Shared> SharedTable<S> {
     // The step that takes a claim away. It leaves the view that the caller picks.
     fn free_at<B: Aim>(&self, seat: &mut Place<S>, lane: Lane, claim: Claim)
         requires table { seat.old.table_id ≡ self.now.table }
-        requires entry { IsWithin self.now.entries claim × (claim ≢ Free) × IsQuiet seat.old.me.0 lane.0 claim }
-        requires lane { Has seat.old.me.0 lane.0 claim }
+        requires entry { IsWithin self.now.entries claim × (claim ≢ Free) × IsQuiet seat.old.me.0.side.diary.active lane.0 claim }
+        requires lane { Has seat.old.me.0.claims lane.0 claim }
         requires aim { B.aim ≡ with_claim seat.old.me.0 (lane.0 - 1) Free }
         ensures same { seat.new.table_id ≡ seat.old.table_id }
         ensures view { seat.new.me ≡ (B.aim, seat.old.me.1) }
@@ -243,7 +243,7 @@ impl<S: Shared> SharedTable<S> {
     ) -> u64
         requires table { seat.old.table_id ≡ self.now.table }
         requires entry { entry < self.now.entries }
-        requires lane { Has seat.old.me.0 lane.0 (before_grant entry mode) }
+        requires lane { Has seat.old.me.0.claims lane.0 (before_grant entry mode) }
         requires words { (t : Claims) → IsPacked t → old ≡ word_of_claims t → IsTrue (is_granted t mode) × (new ≡ word_of_claims (claims_granted t mode)) }
         requires aim { B.aim ≡ with_claim seat.old.me.0 (lane.0 - 1) (Held entry mode) }
         ensures same { seat.new.table_id ≡ seat.old.table_id }
@@ -260,7 +260,7 @@ impl<S: Shared> SharedTable<S> {
     pub fn announce(&self, seat: &mut CoreSeat<S>, lane: Lane, entry: u32)
         requires table { seat.old.table ≡ self.now.table }
         requires entry { entry < self.now.entries }
-        requires lane { Has seat.old.knows lane.0 Free }
+        requires lane { Has (claims seat.old) lane.0 Free }
         ensures { seat.new ≡ lane_changed seat.old lane.0 (Announced entry) }
     {
         let _ = &self.table;
@@ -277,9 +277,9 @@ impl<S: Shared> SharedTable<S> {
         requires table { seat.old.table ≡ self.now.table }
         requires entry { entry < self.now.entries }
         requires slot { turn seat.old ≡ false }
-        requires lane { Has seat.old.knows lane.0 (before_grant entry mode) }
+        requires lane { Has (claims seat.old) lane.0 (before_grant entry mode) }
         ensures same { seat.new.table ≡ seat.old.table }
-        ensures answer { Answers seat.old.knows lane.0 entry mode result seat.new.knows }
+        ensures answer { Answers seat.old lane.0 entry mode result seat.new }
     {
         let _ = &self.table;
         let loaded = self.look_at(&mut seat.seat, entry);
@@ -300,7 +300,7 @@ impl<S: Shared> SharedTable<S> {
     // The lane gives its claim back, whatever it is.
     fn free(&self, seat: &mut CoreSeat<S>, lane: Lane)
         requires table { seat.old.table ≡ self.now.table }
-        requires lane { (c : Claim) × Has seat.old.knows lane.0 c × (c ≢ Free) × IsQuiet seat.old.knows lane.0 c }
+        requires lane { (c : Claim) × Has (claims seat.old) lane.0 c × (c ≢ Free) × IsQuiet (active seat.old) lane.0 c }
         ensures { seat.new ≡ lane_changed seat.old lane.0 Free }
     {
         let _ = &self.table;
@@ -313,8 +313,8 @@ impl<S: Shared> SharedTable<S> {
     /// The lane gives the claim back that it holds. None of the core's active PEIs is in the lane.
     pub fn release(&self, seat: &mut CoreSeat<S>, lane: Lane)
         requires table { seat.old.table ≡ self.now.table }
-        requires lane { IsHolding seat.old.knows lane.0 }
-        requires idle { IsIdle seat.old.knows lane.0 }
+        requires lane { IsHolding (claims seat.old) lane.0 }
+        requires idle { IsIdle (active seat.old) lane.0 }
         ensures { seat.new ≡ lane_changed seat.old lane.0 Free }
     {
         self.free(seat, lane);
@@ -323,7 +323,7 @@ impl<S: Shared> SharedTable<S> {
     /// An announced lane takes its announcement away, and is free.
     pub fn withdraw(&self, seat: &mut CoreSeat<S>, lane: Lane)
         requires table { seat.old.table ≡ self.now.table }
-        requires lane { IsWaiting seat.old.knows lane.0 }
+        requires lane { IsWaiting (claims seat.old) lane.0 }
         ensures { seat.new ≡ lane_changed seat.old lane.0 Free }
     {
         self.free(seat, lane);

@@ -3,7 +3,7 @@
 ghost use Rattle.std.specs.Prelude.{◌≡◌, ◌<◌, false, []};
 ghost use Rattle.shared_table.specs.Outputs.{outputs_by};
 ghost use Rattle.shared_table.specs.Own.{Has};
-ghost use Rattle.shared_table.specs.Parts.{active, core_number, turn};
+ghost use Rattle.shared_table.specs.Parts.{active, claims, core_number, turn};
 ghost use Rattle.shared_table.specs.Slot.{Grows};
 ghost use Rattle.shared_table.specs.declared.claims.Claim.TheVariants.{Free};
 
@@ -40,7 +40,7 @@ fn note(tally: &mut Tally, core: u8)
 // Takes the slot, adds one event, and gives the slot back.
 fn count<R: Wait>(rt: &R, table: &SharedTable<Tally>, seat: &mut CoreSeat<Tally>)
     requires { (seat.old.table ≡ table.now.table) × (turn seat.old ≡ false) }
-    ensures { (seat.new.table ≡ seat.old.table) × (turn seat.new ≡ false) × (seat.new.knows.claims ≡ seat.old.knows.claims) × (active seat.new ≡ []) }
+    ensures { (seat.new.table ≡ seat.old.table) × (turn seat.new ≡ false) × (claims seat.new ≡ claims seat.old) × (active seat.new ≡ []) }
 {
     let mut held = table.hold(rt, seat);
     note(&mut held.value, seat.core().0);
@@ -51,9 +51,9 @@ fn count<R: Wait>(rt: &R, table: &SharedTable<Tally>, seat: &mut CoreSeat<Tally>
 fn claim(table: &SharedTable<Tally>, seat: &mut CoreSeat<Tally>)
     requires place { (seat.old.table ≡ table.now.table) × (0 < table.now.entries) }
     requires slot { turn seat.old ≡ false }
-    requires lane { Has seat.old.knows 1 Free × (seat.old.knows.side.diary.active ≡ []) }
-    ensures same { (seat.new.table ≡ seat.old.table) × (seat.new.knows.side ≡ seat.old.knows.side) }
-    ensures lane { Has seat.new.knows 1 Free }
+    requires lane { Has (claims seat.old) 1 Free × (active seat.old ≡ []) }
+    ensures same { (seat.new.table ≡ seat.old.table) × (turn seat.new ≡ turn seat.old) × (active seat.new ≡ active seat.old) }
+    ensures lane { Has (claims seat.new) 1 Free }
 {
     table.announce(seat, Lane(1), 0);
     match table.try_grant(seat, Lane(1), 0, Mode::Writer) {
@@ -67,8 +67,8 @@ fn claim(table: &SharedTable<Tally>, seat: &mut CoreSeat<Tally>)
 
 fn rounds<R: Wait>(rt: &R, table: &SharedTable<Tally>, mut seat: CoreSeat<Tally>) -> CoreSeat<Tally>
     requires place { (seat.table ≡ table.now.table) × (0 < table.now.entries) }
-    requires seat { (turn seat ≡ false) × Has seat.knows 1 Free × (seat.knows.side.diary.active ≡ []) }
-    ensures { (result.table ≡ seat.table) × (turn result ≡ false) × Has result.knows 1 Free }
+    requires seat { (turn seat ≡ false) × Has (claims seat) 1 Free × (active seat ≡ []) }
+    ensures { (result.table ≡ seat.table) × (turn result ≡ false) × Has (claims result) 1 Free }
 {
     for _ in 0..1000 {
         claim(table, &mut seat);
@@ -137,8 +137,8 @@ fn both<R: Threads + Wait + Sync>(
     other: CoreSeat<Tally>,
 ) -> (CoreSeat<Tally>, CoreSeat<Tally>)
     requires place { (one.table ≡ table.now.table) × (other.table ≡ table.now.table) × (0 < table.now.entries) }
-    requires one { (turn one ≡ false) × Has one.knows 1 Free × (one.knows.side.diary.active ≡ []) }
-    requires other { (turn other ≡ false) × Has other.knows 1 Free × (other.knows.side.diary.active ≡ []) }
+    requires one { (turn one ≡ false) × Has (claims one) 1 Free × (active one ≡ []) }
+    requires other { (turn other ≡ false) × Has (claims other) 1 Free × (active other ≡ []) }
     ensures one { (result.0.table ≡ one.table) × (turn result.0 ≡ false) }
     ensures other { (result.1.table ≡ other.table) × (turn result.1 ≡ false) }
 {
