@@ -1,4 +1,4 @@
 use Rattle.pei_asm.proofs.printing.tests.print_again.Goals as goal
 
-pub print-requires-clause-printable : goal.print-requires-clause-printable
-print-requires-clause-printable c = c.spelled_programs_are_printable.ensures c.args.text.now c.in_ok-program.program c.in_ok-program.ensures.ok
+pub print-requires : goal.print-requires
+print-requires c = c.spelled_programs_are_printable.ensures c.args.text.now c.in_ok-program.program c.in_ok-program.ensures.ok
