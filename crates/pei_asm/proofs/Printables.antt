@@ -12,7 +12,8 @@ use Rattle.pei_asm.specs.Mnemonics.{Shape, place, Item, instruction, entry, word
 use Rattle.pei_asm.specs.Statements.{Statement, Line, label_of, body_of, tokens_alone, separated, fits_row, statement_with, statement_named, statement_in, is_in_range, item_of, line_with, line_from, line_of, meaning_of}
 use Rattle.pei_asm.specs.Spelling.{Spells, instruction_in, entry_in, entry_among, same_core, item_anywhere, items_anywhere, instruction_count, place_among, items_of, program_of, lines_read}
 use Rattle.pei_asm.specs.Canonical.{target_of, IsPrintable}
-use Rattle.pei_asm.proofs.TestFacts.{found_passes, and_then_some, map_some}
+use Rattle.pei_asm.proofs.TestFacts.{and_then_some, map_some}
+use Rattle.pei_types.proofs.Lists.{found_passes}
 
 -- ---- places
 
@@ -339,7 +340,6 @@ program_within lines proper =
     λ text. rw (as_many f (instruction_count lines) (place_below lines) lines proper) (place_below lines text)
     in let within = within_all f most below lines proper
     in record {
-      eight = refl;
       common = entry_within most (items_of lines) None within;
       own = All-from_recursion (λ e. IfSome e (λ pc. pc ≤ most)) (map (λ c. entry_among (items_of lines) (Some c)) (range_with_len 0 8)) (entries_within most (items_of lines) (range_with_len 0 8) within);
       targets = All-from_recursion (λ i. IfSome (target_of i) (λ to. to ≤ most)) (filter_map instruction_in (items_of lines)) (targets_within most (items_of lines) within);

@@ -28,7 +28,7 @@ pub struct Program {
 }
 
 impl Model for Program {
-    ghost use Rattle.std.specs.Prelude.{◌≤◌, ◌<◌, length, map, All};
+    ghost use Rattle.std.specs.Prelude.{◌≡◌, ◌≤◌, ◌<◌, length, map, All};
     ghost use Rattle.pei_types.specs.Program.{Listing};
 
     ghost Value = { Listing };
@@ -37,7 +37,7 @@ impl Model for Program {
 
     ghost view = { λ p. record { instrs = p.instrs.items; lines = map (λ l. (l.addr, l.words.items)) p.lines.items; asks = p.asks.items; own_entries = p.own_entries; common_entry = p.common_entry; statistics = p.statistics } };
 
-    ghost invariant = { λ p. (length p.instrs.items ≤ 65536) × All HasRegisters p.instrs.items × (length p.lines.items ≤ 4294967295) × All (λ l. 0 < length l.words.items) p.lines.items };
+    ghost invariant = { λ p. (length p.instrs.items ≤ 65536) × All HasRegisters p.instrs.items × (length p.lines.items ≤ 4294967295) × All (λ l. 0 < length l.words.items) p.lines.items × (length p.own_entries ≡ 8) };
 }
 
 impl Program {
@@ -141,6 +141,7 @@ impl Program {
         requires { IfSome core (λ c. c.0 < 8) }
         ensures own { IfSome core (λ c. result ≡ own_entry self.now c) }
         ensures common { IfNone core (result ≡ self.now.common_entry) }
+        ensures eight { length self.now.own_entries ≡ 8 }
     {
         match core {
             Some(c) => self.own_entries[c.0 as usize],
