@@ -1,7 +1,7 @@
 -- Lines with contents follow the state and its contents.
 use Rattle.std.proofs.Common.{◌≡◌, ℕ, zero, suc, ◌<◌, Bool, true, false, List, [], ◌∷◌, length, Option, Some, None, refl, sym, ◌∙◌, ap, subst, arith}
 use Rattle.std.specs.Prelude.{◌==◌, ◌&&◌, ◌||◌, not, map, find, replicate, if◌then◌else◌, option_map, IsTrue}
-use Rattle.std.proofs.lemmas.Bool.{and_parts}
+use Rattle.std.proofs.lemmas.Bool.{and_parts, not-true}
 use Rattle.std.proofs.lemmas.List.{length-map}
 use Rattle.pei_types.specs.declared.identifiers.Actor.{Actor}
 use Rattle.pei_types.specs.declared.identifiers.Block.{Block}
@@ -34,13 +34,16 @@ use Rattle.coherence_laws.specs.Holdings.{CopyLine, HeldLine, Holdings, bare_cop
 use Rattle.pei_types.specs.Program.{Contents}
 use Rattle.coherence_laws.proofs.Lists.{find-without_same, list_at-kept, Each-any}
 use Rattle.coherence_laws.proofs.CacheSets.{find-front, find-gone, find-changed_same, find-changed_other, find-first_same, find-first_other}
-use Rattle.coherence_laws.proofs.Lookups.{found_at, found_at-changed, found_at-kept, flip, same_self}
-use Rattle.coherence_laws.proofs.Letters.{letter-front, letter-gone, letter-touched, letter-shared, mark-touched, mark-gone, mark-new, mark-set, number_apart, number_apart_back}
-use Rattle.coherence_laws.proofs.Agreement.{block_same, core_same, owned_is_copy, m_is_owned, dirty_not_absent}
+use Rattle.coherence_laws.proofs.Lookups.{found_at, found_at-changed, found_at-kept, flip}
+use Rattle.coherence_laws.proofs.Letters.{letter-front, letter-gone, letter-touched, letter-shared, mark-touched, mark-gone, mark-new, mark-set, number_apart_back}
+use Rattle.coherence_laws.proofs.Agreement.{owned_is_copy, m_is_owned, dirty_not_absent}
 use Rattle.coherence_laws.proofs.CacheEvents.{copy_in_range, take_back_step, take_back_letters}
 use Rattle.coherence_laws.proofs.Keeps.{in_machine, evicts_own, first_letter, no_list}
-use Rattle.coherence_laws.proofs.HeldLookups.{map-change_at, map-without, map-to_front, map-map, list_at-map, find-mapped, looked-changed, looked-kept}
-use Rattle.coherence_laws.proofs.Tests.{four_parts, five_parts, not_is_true}
+use Rattle.coherence_laws.proofs.HeldLookups.{map-without, map-to_front, map-map, list_at-map, find-mapped, looked-changed, looked-kept}
+use Rattle.coherence_laws.proofs.Tests.{four_parts, five_parts}
+use Rattle.pei_types.proofs.Tests.{same_self, number_apart}
+use Rattle.pei_types.proofs.Lists.{map-change_at}
+use Rattle.pei_types.proofs.Identities.{same_core_is, same_block_is}
 
 copy_key : CopyLine → ℕ
 copy_key x = x.block.0
@@ -184,7 +187,7 @@ shared_follows m s k d c b f sizes inside copy =
     ∙ f.copies z e (was z e (same_core z c) (same_block e b) refl refl (letter-shared m s c b sizes inside copy z e) there))
   where
     was : (z : CoreId) (e : BlockNo) (t u : Bool) → same_core z c ≡ t → same_block e b ≡ u → letter_of m (with_l1_shared m s c b) z e ≡ (if t && u then letter.S else letter_of m s z e) → is_i (letter_of m (with_l1_shared m s c b) z e) ≡ false → is_i (letter_of m s z e) ≡ false
-    was z e true true p q r there = rw (core_same z c p, block_same e b q) copy
+    was z e true true p q r there = rw (same_core_is z c p, same_block_is e b q) copy
     was z e true false p q r there = rw (← r) there
     was z e false u p q r there = rw (← r) there
 
@@ -259,7 +262,7 @@ clean_follows m s k d b f sizes before =
     ∙ f.lines e (was e (same_block e b) refl (mark-set m s b mark.Clean sizes before e) there))
   where
     was : (e : BlockNo) (t : Bool) → same_block e b ≡ t → mark_of m (with_llc_mark m s b mark.Clean) e ≡ (if t then mark.Clean else mark_of m s e) → is_absent (mark_of m (with_llc_mark m s b mark.Clean) e) ≡ false → is_absent (mark_of m s e) ≡ false
-    was e true q r there = rw (block_same e b q) before
+    was e true q r there = rw (same_block_is e b q) before
     was e false q r there = rw (← r) there
 
 -- a new line with this content
@@ -343,7 +346,7 @@ reading_follows m s k d id seq (Some p) f ok =
   where
     there : (w : Bool) → (if w then is_owned (letter_of m s p.id.core p.block) else not (is_i (letter_of m s p.id.core p.block))) ≡ true → is_i (letter_of m s p.id.core p.block) ≡ false
     there true q = owned_is_copy (letter_of m s p.id.core p.block) q
-    there false q = not_is_true (is_i (letter_of m s p.id.core p.block)) q
+    there false q = not-true (is_i (letter_of m s p.id.core p.block)) q
 
 writing_follows : (m : MachineSpec) (s : State) (k : Holdings) (d : Data) (p : PeiLook) (w : Bool) → Follows m s k d → Invariants m s → (not w || is_owned (letter_of m s p.id.core p.block)) ≡ true → Follows m (if w then with_l1_front m s p.id.core p.block letter.M else s) (if w then with_copy_front m k p.id.core p.block letter.M (block_after p.op p.operands (held_copy m k p.id.core p.block)) else k) (if w then with_copy d p.id.core p.block (block_after p.op p.operands (d.copy p.id.core p.block)) else d)
 writing_follows m s k d p true f i ok =
@@ -400,7 +403,7 @@ next_follows m s k d a (event.Read seq) i own ok f = rest_follows m (after_readi
 next_follows m s k d a (event.Seal seq vault) i own ok f = rest_follows m s _ k d refl refl f
 next_follows m s k d a (event.Act seq reply) i own ok f = rest_follows m (after_acting m s (look_of s (pei_id a seq))) _ _ _ refl refl (acting_follows m s k d seq reply (look_of s (pei_id a seq)) f i ok)
 next_follows m s k d a (event.Leave seq) i own ok f = rest_follows m s _ k d refl refl f
-next_follows m s k d a (event.Invalidate c b) i own ok f = invalidating_follows m s k d c b f i (not_is_true (is_i (letter_of m s c b)) ok)
+next_follows m s k d a (event.Invalidate c b) i own ok f = invalidating_follows m s k d c b f i (not-true (is_i (letter_of m s c b)) ok)
 next_follows m s k d a (event.Downgrade c b) i own ok f = downgrading_follows m s k d c b f i ok
 next_follows m s k d a (event.EvictL1 c b) i own ok f = invalidating_follows m s k d c b f i (evicts_own m s c a.core b ok)
 next_follows m s k d a (event.Clean b) i own ok f =
@@ -410,13 +413,13 @@ next_follows m s k d a (event.EvictLlc b) i own ok f = evict_follows m s k d b f
 next_follows m s k d a (event.Fill b) i own ok f = fill_follows m s k d b (k.vault b) (d.vault b) f i.sizes (f.vaults b)
 next_follows m s k d a (event.GrantS b) i own ok f =
     let g = four_parts (is_i (letter_of m s a.core b)) (not (is_absent (mark_of m s b))) (no_other_owns m s a.core b) (l1_has_room m s a.core b) ok
-    in granting_follows m s k d a.core b letter.S f i.sizes (in_machine m a own) (not_is_true (is_absent (mark_of m s b)) g.1)
+    in granting_follows m s k d a.core b letter.S f i.sizes (in_machine m a own) (not-true (is_absent (mark_of m s b)) g.1)
 next_follows m s k d a (event.GrantE b) i own ok f =
     let g = five_parts (is_i (letter_of m s a.core b)) (not (is_absent (mark_of m s b))) (no_other_has m s a.core b) (not (is_sealed s b)) (l1_has_room m s a.core b) ok
-    in granting_follows m s k d a.core b letter.E f i.sizes (in_machine m a own) (not_is_true (is_absent (mark_of m s b)) g.1)
+    in granting_follows m s k d a.core b letter.E f i.sizes (in_machine m a own) (not-true (is_absent (mark_of m s b)) g.1)
 next_follows m s k d a (event.GrantM b) i own ok f =
     let g = five_parts (not (is_owned (letter_of m s a.core b))) (not (is_absent (mark_of m s b))) (no_other_has m s a.core b) (not (is_sealed s b)) (not (is_i (letter_of m s a.core b)) || l1_has_room m s a.core b) ok
-    in granting_follows m s k d a.core b letter.M f i.sizes (in_machine m a own) (not_is_true (is_absent (mark_of m s b)) g.1)
+    in granting_follows m s k d a.core b letter.M f i.sizes (in_machine m a own) (not-true (is_absent (mark_of m s b)) g.1)
 
 -- ---- the first state, and what is held
 

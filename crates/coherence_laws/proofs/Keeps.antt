@@ -2,7 +2,7 @@
 use Rattle.std.proofs.Common.{◌≡◌, ℕ, zero, suc, ◌<◌, ◌≤◌, Bool, true, false, List, [], ◌∷◌, ◌++◌, length, Option, Some, None, refl, sym, ◌∙◌, ap, subst, arith, replicate}
 use Rattle.std.specs.Prelude.{◌==◌, ◌&&◌, ◌||◌, not, nat_lt, nat_le, find, if◌then◌else◌, option_map, ⊤, slice_index, IsTrue}
 use Rattle.std.specs.List.{list_any}
-use Rattle.std.proofs.lemmas.Bool.{and_parts}
+use Rattle.std.proofs.lemmas.Bool.{and_parts, not-true}
 use Rattle.std.proofs.lemmas.List.{append_assoc, append-nil, length-replicate}
 use Rattle.pei_types.specs.declared.operations.Reply.{Reply}
 use Rattle.std.proofs.lemmas.Grind.{common_steps}
@@ -37,13 +37,14 @@ use Rattle.pei_types.proofs.Histories.{from_of_each}
 use Rattle.pei_types.proofs.Pushes.{state_after-push}
 use Rattle.coherence_laws.specs.Sets.{EachPair, IsSet}
 use Rattle.coherence_laws.specs.Invariants.{Invariants, is_active, block_of_line, block_of_llc_line, tag_of_entry, IsLineOf, IsLlcLineOf}
-use Rattle.coherence_laws.proofs.Lists.{found_has, found_passes}
 use Rattle.coherence_laws.proofs.Agreement.{i_not_owned, dirty_not_absent}
 use Rattle.coherence_laws.proofs.Steps.{l1_touch_step, placed_set, monitor_step}
 use Rattle.coherence_laws.proofs.CacheEvents.{room_where_free, room_where_there, has_line, front_step, store_step, marked_step, line_gone_step, fill_step, invalidate_step, downgrade_step, grant_step, others_lack, others_own_none, unsealed_by_test, unsealed_where_dirty}
-use Rattle.coherence_laws.proofs.PeiSteps.{pei_same, pei_self, only_of, name_of, phase_step, sealed_by_phase}
+use Rattle.coherence_laws.proofs.PeiSteps.{only_of, name_of, phase_step, sealed_by_phase}
 use Rattle.coherence_laws.proofs.QueueSteps.{seal_step, act_step, leave_step, fence_step, issue_step, active_by_phase}
-use Rattle.coherence_laws.proofs.Tests.{three_parts, four_parts, five_parts, not_is_true}
+use Rattle.coherence_laws.proofs.Tests.{three_parts, four_parts, five_parts}
+use Rattle.pei_types.proofs.Lists.{found_passes, found_has}
+use Rattle.pei_types.proofs.Identities.{same_pei_refl, same_pei_is}
 
 -- ---- grants
 
@@ -53,7 +54,7 @@ grant_s m s c b h k ok =
     in grant_step m s c b letter.S
     (front_step m s c b letter.S h k refl
     (room_where_free m.l1_ways (is_line_of b) (l1_set m s c b) g.3)
-    (not_is_true (is_absent (mark_of m s b)) g.1)
+    (not-true (is_absent (mark_of m s b)) g.1)
     (λ e. absurd (cc e)) (others_own_none m s c b h.sizes g.2) (λ e. absurd (cc e)))
 
 -- a grant that lets the core write, where the set has room or the line
@@ -68,7 +69,7 @@ grant_owned m s c b l copy h k room line alone free =
 grant_e : (m : MachineSpec) (s : State) (c : CoreId) (b : BlockNo) → Invariants m s → c.0 < m.cores → (is_i (letter_of m s c b) && not (is_absent (mark_of m s b)) && no_other_has m s c b && not (is_sealed s b) && l1_has_room m s c b) ≡ true → Invariants m (after_granting m s c b letter.E)
 grant_e m s c b h k ok =
     let g = five_parts (is_i (letter_of m s c b)) (not (is_absent (mark_of m s b))) (no_other_has m s c b) (not (is_sealed s b)) (l1_has_room m s c b) ok
-    in grant_owned m s c b letter.E refl h k (room_where_free m.l1_ways (is_line_of b) (l1_set m s c b) g.4) (not_is_true (is_absent (mark_of m s b)) g.1) g.2 (not_is_true (is_sealed s b) g.3)
+    in grant_owned m s c b letter.E refl h k (room_where_free m.l1_ways (is_line_of b) (l1_set m s c b) g.4) (not-true (is_absent (mark_of m s b)) g.1) g.2 (not-true (is_sealed s b) g.3)
 
 room_for : (m : MachineSpec) (s : State) (c : CoreId) (b : BlockNo) (t : Bool) → Invariants m s → is_i (letter_of m s c b) ≡ t → (not t || l1_has_room m s c b) ≡ true → length (without (is_line_of b) (l1_set m s c b)) < m.l1_ways
 room_for m s c b true h e ok = room_where_free m.l1_ways (is_line_of b) (l1_set m s c b) ok
@@ -77,7 +78,7 @@ room_for m s c b false h e ok = room_where_there m.l1_ways (is_line_of b) (l1_se
 grant_m : (m : MachineSpec) (s : State) (c : CoreId) (b : BlockNo) → Invariants m s → c.0 < m.cores → (not (is_owned (letter_of m s c b)) && not (is_absent (mark_of m s b)) && no_other_has m s c b && not (is_sealed s b) && (not (is_i (letter_of m s c b)) || l1_has_room m s c b)) ≡ true → Invariants m (after_granting m s c b letter.M)
 grant_m m s c b h k ok =
     let g = five_parts (not (is_owned (letter_of m s c b))) (not (is_absent (mark_of m s b))) (no_other_has m s c b) (not (is_sealed s b)) (not (is_i (letter_of m s c b)) || l1_has_room m s c b) ok
-    in grant_owned m s c b letter.M refl h k (room_for m s c b (is_i (letter_of m s c b)) h refl g.4) (not_is_true (is_absent (mark_of m s b)) g.1) g.2 (not_is_true (is_sealed s b) g.3)
+    in grant_owned m s c b letter.M refl h k (room_for m s c b (is_i (letter_of m s c b)) h refl g.4) (not-true (is_absent (mark_of m s b)) g.1) g.2 (not-true (is_sealed s b) g.3)
 
 -- ---- PEIs
 
@@ -95,8 +96,8 @@ placing_step m s p h =
 is_unentered : (m : MachineSpec) (s : State) (p : PeiLook) (id : PeiId) (o : Option PeiLook) → Invariants m s → look_of s id ≡ Some p → find (λ q. same_core q.id.core p.id.core && is_phase q.phase phase.Issued) s.peis ≡ o → is_pei (option_map (λ q. q.id) o) p.id ≡ true → is_phase p.phase phase.Issued ≡ true
 is_unentered m s p id None h e f ok = absurd (cc ok)
 is_unentered m s p id (Some q) h e f ok =
-    let name : q.id ≡ id = pei_same q.id p.id ok ∙ name_of s id p e
-    in let same : q ≡ p = found_has (λ x. same_pei x.id id ≡ true → x ≡ p) (λ x. same_core x.id.core p.id.core && is_phase x.phase phase.Issued) s.peis q (only_of m s id p h e) f (rw name (pei_self id))
+    let name : q.id ≡ id = same_pei_is q.id p.id ok ∙ name_of s id p e
+    in let same : q ≡ p = found_has (λ x. same_pei x.id id ≡ true → x ≡ p) (λ x. same_core x.id.core p.id.core && is_phase x.phase phase.Issued) s.peis q (only_of m s id p h e) f (rw name (same_pei_refl id))
     in let k = and_parts (same_core q.id.core p.id.core) (is_phase q.phase phase.Issued) (found_passes (λ x. same_core x.id.core p.id.core && is_phase x.phase phase.Issued) s.peis q f)
     in rw (← same) k.1
 
@@ -105,7 +106,7 @@ enter_step m s id seq None h e ok = absurd (cc ok)
 enter_step m s id seq (Some p) h e ok =
     let g = and_parts (is_pei (first_unentered s p.id.core) p.id) (not (entry_is_taken m s p)) ok
     in let issued = is_unentered m s p id _ h e refl g.0
-    in phase_step m s id phase.Entered p h e (λ q. not_is_true (entry_is_taken m s p) g.1) (sealed_by_phase p phase.Issued issued refl) refl
+    in phase_step m s id phase.Entered p h e (λ q. not-true (entry_is_taken m s p) g.1) (sealed_by_phase p phase.Issued issued refl) refl
 
 place_step : (m : MachineSpec) (s : State) (id : PeiId) (seq : ℕ) (to : Place) (ph : Phase) (o : Option PeiLook) → Invariants m s → look_of s id ≡ o → is_phase ph phase.Sealed ≡ false → pei_guard m s (event.Place seq to) o ≡ true → Invariants m (in_phase (after_placing m s o) id ph)
 place_step m s id seq to ph None h e not_seal ok = absurd (cc ok)
@@ -150,7 +151,7 @@ pub in_machine : (m : MachineSpec) (a : Actor) → is_actor_of m a ≡ true → 
 in_machine m a h = let k : nat_lt a.core.0 m.cores ≡ true = (and_parts (nat_lt a.core.0 m.cores) (nat_le a.lane.0 m.buffer) h).0 in grind (arith, common_steps)
 
 pub evicts_own : (m : MachineSpec) (s : State) (c d : CoreId) (b : BlockNo) → (same_core c d && not (is_i (letter_of m s c b))) ≡ true → is_i (letter_of m s c b) ≡ false
-evicts_own m s c d b ok = not_is_true (is_i (letter_of m s c b)) ((and_parts (same_core c d) (not (is_i (letter_of m s c b))) ok).1)
+evicts_own m s c d b ok = not-true (is_i (letter_of m s c b)) ((and_parts (same_core c d) (not (is_i (letter_of m s c b))) ok).1)
 
 clean_step : (m : MachineSpec) (s : State) (b : BlockNo) → Invariants m s → (is_dirty (mark_of m s b) && none_owns m s b) ≡ true → Invariants m (with_llc_mark m s b mark.Clean)
 clean_step m s b h ok =
@@ -176,14 +177,14 @@ next_keeps m s a (event.Read seq) h own ok = read_step m s (pei_id a seq) seq (l
 next_keeps m s a (event.Seal seq vault) h own ok = sealing_step m s (pei_id a seq) seq vault (look_of s (pei_id a seq)) h refl ok
 next_keeps m s a (event.Act seq reply) h own ok = acting_step m s (pei_id a seq) seq reply (look_of s (pei_id a seq)) h refl ok
 next_keeps m s a (event.Leave seq) h own ok = leaving_step m s (pei_id a seq) seq (look_of s (pei_id a seq)) h refl ok
-next_keeps m s a (event.Invalidate c b) h own ok = invalidate_step m s c b h (not_is_true (is_i (letter_of m s c b)) ok)
+next_keeps m s a (event.Invalidate c b) h own ok = invalidate_step m s c b h (not-true (is_i (letter_of m s c b)) ok)
 next_keeps m s a (event.Downgrade c b) h own ok = downgrade_step m s c b h ok
 next_keeps m s a (event.EvictL1 c b) h own ok = invalidate_step m s c b h (evicts_own m s c a.core b ok)
 next_keeps m s a (event.Clean b) h own ok = clean_step m s b h ok
 next_keeps m s a (event.EvictLlc b) h own ok = line_gone_step m s b h ((and_parts (is_clean (mark_of m s b)) (none_has m s b) ok).1)
 next_keeps m s a (event.Fill b) h own ok =
     let g = three_parts (is_absent (mark_of m s b)) (not (writer_is_sealed s b)) (llc_has_room m s b) ok
-    in fill_step m s b h (not_is_true (writer_is_sealed s b) g.1) g.2
+    in fill_step m s b h (not-true (writer_is_sealed s b) g.1) g.2
 next_keeps m s a (event.GrantS b) h own ok = grant_s m s a.core b h (in_machine m a own) ok
 next_keeps m s a (event.GrantE b) h own ok = grant_e m s a.core b h (in_machine m a own) ok
 next_keeps m s a (event.GrantM b) h own ok = grant_m m s a.core b h (in_machine m a own) ok

@@ -19,12 +19,14 @@ use Rattle.pei_types.specs.Operation.{is_writer}
 use Rattle.pei_types.specs.Recency.{change_at, list_at, without}
 use Rattle.coherence_laws.specs.Sets.{Each, EachPair}
 use Rattle.coherence_laws.specs.Invariants.{HoldsSeal, IsOnItsWay, HasQueue, Invariants, GoTogether, is_active, is_sealed_look, is_sealed_in}
-use Rattle.coherence_laws.proofs.Lists.{Each-weaker, Each-both, Each-map, Each-filter, Each-append, EachPair-filter, EachPair-append, any_false, found_has, found_passes, none_pass, any-map, any-without, any-found_map, none_any, Each-any, length-change_at, list_at-change_same, list_at-change_other}
-use Rattle.coherence_laws.proofs.Lookups.{same_number, same_self}
-use Rattle.coherence_laws.proofs.Agreement.{core_same}
+use Rattle.coherence_laws.proofs.Lists.{EachPair-filter, EachPair-append, any-map, any-without, any-found_map, none_any, Each-any, list_at-change_other}
 use Rattle.coherence_laws.proofs.CacheEvents.{current_holds}
-use Rattle.coherence_laws.proofs.PeiSteps.{pei_same, pei_flip, phase_is, only_of, at_phase, phase_together, phase_on_the_way, sealed_by_phase}
-use Rattle.coherence_laws.proofs.Tests.{four_parts, not_is_true, both_false}
+use Rattle.coherence_laws.proofs.PeiSteps.{pei_flip, phase_is, only_of, at_phase, phase_together, phase_on_the_way, sealed_by_phase}
+use Rattle.coherence_laws.proofs.Tests.{four_parts, both_false}
+use Rattle.pei_types.proofs.Tests.{none_is, same_self}
+use Rattle.pei_types.proofs.Identities.{same_lane_is, same_pei_is, same_core_is}
+use Rattle.std.proofs.lemmas.Bool.{not-true, eqb-true}
+use Rattle.pei_types.proofs.Lists.{found_passes, each_weaker, each_map, each_filter, each_append, none_pass, each_fails, each_both, found_has, list_at-change_at_same, length-change_at}
 
 -- the same state with other queues, and one PEI in another phase
 requeued : State → PeiId → Phase → List (List PeiId) → State
@@ -39,7 +41,7 @@ requeued_step m s id ph p queues h e active seal size all =
       agree = h.agree;
       together = phase_together m s id ph p h e (λ q. absurd (cc (q, active)));
       on_the_way =
-          Each-weaker (IsOnItsWay m s) (IsOnItsWay m (record s { peis = map (with_phase id ph) s.peis; queues = queues })) (λ x k. record { core = k.core; lane = k.lane; counted = k.counted; seal = k.seal }) (map (with_phase id ph) s.peis)
+          each_weaker (IsOnItsWay m s) (IsOnItsWay m (record s { peis = map (with_phase id ph) s.peis; queues = queues })) (λ x k. record { core = k.core; lane = k.lane; counted = k.counted; seal = k.seal }) (map (with_phase id ph) s.peis)
           (phase_on_the_way m s id ph p h e seal);
       queues = all;
     }
@@ -53,7 +55,7 @@ active_by_phase x ph h g = rw (phase_is x.phase ph h, g)
 seal_elsewhere : (m : MachineSpec) (s : State) (id n : PeiId) (v w : ℕ) (p : PeiLook) → Invariants m s → look_of s id ≡ Some p → is_sealed_look p ≡ false → v ≡ vault_of m p.block → ((v == w) ≡ true → same_pei id n ≡ true → ⊥) → list_any (is_sealed_in m w n) (map (with_phase id phase.Sealed) s.peis) ≡ list_any (is_sealed_in m w n) s.peis
 seal_elsewhere m s id n v w p h e before vault other =
     any-map (is_sealed_in m w n) (with_phase id phase.Sealed) s.peis
-    (Each-weaker (λ x. same_pei x.id id ≡ true → x ≡ p) (λ x. is_sealed_in m w n (with_phase id phase.Sealed x) ≡ is_sealed_in m w n x)
+    (each_weaker (λ x. same_pei x.id id ≡ true → x ≡ p) (λ x. is_sealed_in m w n (with_phase id phase.Sealed x) ≡ is_sealed_in m w n x)
     (λ x k. at_phase (λ z. is_sealed_in m w n z ≡ is_sealed_in m w n x) id phase.Sealed x
     (λ t. here x (same_pei x.id n) (is_sealed_look x) (vault_of m x.block == w) refl refl (rw (k t) before) t (k t))
     (λ t. refl))
@@ -61,7 +63,7 @@ seal_elsewhere m s id n v w p h e before vault other =
   where
     here : (x : PeiLook) (t u z : Bool) → same_pei x.id n ≡ t → (vault_of m x.block == w) ≡ z → u ≡ false → same_pei x.id id ≡ true → x ≡ p → (t && true && z) ≡ (t && u && z)
     here x true u true a b c t same =
-        let name : x.id ≡ id = pei_same x.id id t
+        let name : x.id ≡ id = same_pei_is x.id id t
         in let at : (v == w) ≡ true = rw vault (rw same at b)
         in absurd (other at (rw (← name) a))
     here x true u false a b c t same = rw c
@@ -71,7 +73,7 @@ seal_elsewhere m s id n v w p h e before vault other =
 not_sealed : (m : MachineSpec) (s : State) (id : PeiId) (v : ℕ) (p : PeiLook) → Invariants m s → look_of s id ≡ Some p → is_sealed_look p ≡ false → list_any (is_sealed_in m v id) s.peis ≡ false
 not_sealed m s id v p h e before =
     none_any (is_sealed_in m v id) s.peis
-    (Each-weaker (λ x. same_pei x.id id ≡ true → x ≡ p) (λ x. is_sealed_in m v id x ≡ false) (λ x k. here x (same_pei x.id id) (vault_of m x.block == v) refl k) s.peis (only_of m s id p h e))
+    (each_weaker (λ x. same_pei x.id id ≡ true → x ≡ p) (λ x. is_sealed_in m v id x ≡ false) (λ x k. here x (same_pei x.id id) (vault_of m x.block == v) refl k) s.peis (only_of m s id p h e))
   where
     here : (x : PeiLook) (t z : Bool) → same_pei x.id id ≡ t → (same_pei x.id id ≡ true → x ≡ p) → (t && is_sealed_look x && z) ≡ false
     here x true z a k = let b : is_sealed_look x ≡ false = rw (k a) before in rw b
@@ -101,13 +103,13 @@ pub seal_step : (m : MachineSpec) (s : State) (id : PeiId) (v : ℕ) (p : PeiLoo
 unfolding requeued
 seal_step m s id v p h e ok =
     let k = four_parts (is_phase p.phase phase.MemoryPlaced) (v == vault_of m p.block) (not (queue_is_full m s v)) (memory_is_current m s p) ok
-    in let vault : v ≡ vault_of m p.block = same_number v (vault_of m p.block) k.1
+    in let vault : v ≡ vault_of m p.block = eqb-true v (vault_of m p.block) k.1
     in let before : is_sealed_look p ≡ false = sealed_by_phase p phase.MemoryPlaced k.0 refl
-    in let full : (length (queue_of s v) == m.queue) ≡ false = not_is_true (queue_is_full m s v) k.2
+    in let full : (length (queue_of s v) == m.queue) ≡ false = not-true (queue_is_full m s v) k.2
     in let inside : v < length s.queues = omega (arith, h.sizes.queues, m.vaults_in_limits, vault)
     in requeued_step m s id phase.Sealed p (change_at s.queues v (λ queue. queue ++ id ∷ [])) h e (active_by_phase p phase.MemoryPlaced k.0 refl)
     (λ _. current_holds m s p h.sizes k.3)
-    (length-change_at (λ queue. queue ++ id ∷ []) s.queues v ∙ h.sizes.queues)
+    (length-change_at s.queues v (λ queue. queue ++ id ∷ []) ∙ h.sizes.queues)
     (λ w. by_vault before vault full inside w (v == w) refl)
   where
     all : List (List PeiId)
@@ -120,7 +122,7 @@ seal_step m s id v p h e ok =
     by_name before vault n true t =
         list_any-append (λ q. same_pei q n) (queue_of s v) (id ∷ [])
         ∙ or_last (list_any (λ q. same_pei q n) (queue_of s v)) (same_pei id n) t
-        ∙ sym (rw vault (sealed_here m s id n p e (pei_same id n t)))
+        ∙ sym (rw vault (sealed_here m s id n p e (same_pei_is id n t)))
     by_name before vault n false t =
         list_any-append (λ q. same_pei q n) (queue_of s v) (id ∷ [])
         ∙ or_none (list_any (λ q. same_pei q n) (queue_of s v)) (same_pei id n) t
@@ -129,8 +131,8 @@ seal_step m s id v p h e ok =
 
     by_vault : is_sealed_look p ≡ false → v ≡ vault_of m p.block → (length (queue_of s v) == m.queue) ≡ false → v < length s.queues → (w : ℕ) (t : Bool) → (v == w) ≡ t → HasQueue m (record s { peis = map (with_phase id phase.Sealed) s.peis; queues = all }) w
     by_vault before vault full inside w true t =
-        let same : v ≡ w = same_number v w t
-        in let q : list_at all v ≡ queue_of s v ++ id ∷ [] = list_at-change_same (λ queue. queue ++ id ∷ []) s.queues v inside
+        let same : v ≡ w = eqb-true v w t
+        in let q : list_at all v ≡ queue_of s v ++ id ∷ [] = list_at-change_at_same s.queues v (λ queue. queue ++ id ∷ []) inside
         in let old = h.queues v
         in subst (λ x. HasQueue m (record s { peis = map (with_phase id phase.Sealed) s.peis; queues = all }) x) same
         (record {
@@ -138,7 +140,7 @@ seal_step m s id v p h e ok =
           apart =
               subst (λ qs. EachPair (λ a b. same_pei a b ≡ false) qs) (sym q)
               (EachPair-append (λ a b. same_pei a b ≡ false) (queue_of s v) (id ∷ []) old.apart (tt, tt)
-              (Each-weaker (λ a. same_pei a id ≡ false) (λ a. Each (λ b. same_pei a b ≡ false) (id ∷ [])) (λ a k. (k, tt)) (queue_of s v) (any_false (λ a. same_pei a id) (queue_of s v) (lacks before))));
+              (each_weaker (λ a. same_pei a id ≡ false) (λ a. Each (λ b. same_pei a b ≡ false) (id ∷ [])) (λ a k. (k, tt)) (queue_of s v) (each_fails (λ a. same_pei a id) (queue_of s v) (lacks before))));
           sealed = λ n. subst (λ qs. list_any (λ a. same_pei a n) qs ≡ list_any (is_sealed_in m v n) (map (with_phase id phase.Sealed) s.peis)) (sym q) (by_name before vault n (same_pei id n) refl);
         })
     by_vault before vault full inside w false t =
@@ -154,13 +156,13 @@ seal_step m s id v p h e ok =
 
 head_is : (queue : List PeiId) (id : PeiId) → is_pei (slice_get queue 0) id ≡ true → (rest : List PeiId) × (queue ≡ id ∷ rest)
 head_is [] id h = absurd (cc h)
-head_is (q ∷ rest) id h = (rest, ap (λ x. x ∷ rest) (pei_same q id h))
+head_is (q ∷ rest) id h = (rest, ap (λ x. x ∷ rest) (same_pei_is q id h))
 
 -- the other sealed PEIs
 act_elsewhere : (m : MachineSpec) (s : State) (id n : PeiId) (w : ℕ) (p : PeiLook) → Invariants m s → look_of s id ≡ Some p → ((vault_of m p.block == w) ≡ true → same_pei id n ≡ true → ⊥) → list_any (is_sealed_in m w n) (map (with_phase id phase.Acted) s.peis) ≡ list_any (is_sealed_in m w n) s.peis
 act_elsewhere m s id n w p h e other =
     any-map (is_sealed_in m w n) (with_phase id phase.Acted) s.peis
-    (Each-weaker (λ x. same_pei x.id id ≡ true → x ≡ p) (λ x. is_sealed_in m w n (with_phase id phase.Acted x) ≡ is_sealed_in m w n x)
+    (each_weaker (λ x. same_pei x.id id ≡ true → x ≡ p) (λ x. is_sealed_in m w n (with_phase id phase.Acted x) ≡ is_sealed_in m w n x)
     (λ x k. at_phase (λ z. is_sealed_in m w n z ≡ is_sealed_in m w n x) id phase.Acted x
     (λ t. here x (same_pei x.id n) (is_sealed_look x) (vault_of m x.block == w) refl refl t (k t))
     (λ t. refl))
@@ -168,7 +170,7 @@ act_elsewhere m s id n w p h e other =
   where
     here : (x : PeiLook) (t u z : Bool) → same_pei x.id n ≡ t → (vault_of m x.block == w) ≡ z → same_pei x.id id ≡ true → x ≡ p → (t && false && z) ≡ (t && u && z)
     here x true true true a b t same =
-        let name : x.id ≡ id = pei_same x.id id t
+        let name : x.id ≡ id = same_pei_is x.id id t
         in absurd (other (rw same at b) (rw (← name) a))
     here x true false z a b t same = refl
     here x true true false a b t same = refl
@@ -178,7 +180,7 @@ act_elsewhere m s id n w p h e other =
 acted_here : (m : MachineSpec) (s : State) (id : PeiId) (w : ℕ) → list_any (is_sealed_in m w id) (map (with_phase id phase.Acted) s.peis) ≡ false
 acted_here m s id w =
     none_any (is_sealed_in m w id) (map (with_phase id phase.Acted) s.peis)
-    (Each-map (λ _. ⊤) (λ x. is_sealed_in m w id x ≡ false) (with_phase id phase.Acted)
+    (each_map (λ _. ⊤) (λ x. is_sealed_in m w id x ≡ false) (with_phase id phase.Acted)
     (λ x k. at_phase (λ z. is_sealed_in m w id z ≡ false) id phase.Acted x (λ t. here (same_pei x.id id) (vault_of m x.block == w)) (λ t. rw t))
     s.peis (Each-any (λ _. ⊤) (λ x. tt) s.peis))
   where
@@ -188,7 +190,7 @@ acted_here m s id w =
 
 absent_any : (id n : PeiId) (rest : List PeiId) → Each (λ q. same_pei id q ≡ false) rest → id ≡ n → list_any (λ q. same_pei q n) rest ≡ false
 absent_any id n rest h same =
-    none_any (λ q. same_pei q n) rest (Each-weaker (λ q. same_pei id q ≡ false) (λ q. same_pei q n ≡ false) (λ q k. rw (← same) (pei_flip id q k)) rest h)
+    none_any (λ q. same_pei q n) rest (each_weaker (λ q. same_pei id q ≡ false) (λ q. same_pei q n ≡ false) (λ q k. rw (← same) (pei_flip id q k)) rest h)
 
 -- an act in memory
 pub act_step : (m : MachineSpec) (s : State) (id : PeiId) (p : PeiLook) → Invariants m s → look_of s id ≡ Some p → is_sealed_look p ≡ true → is_pei (slice_get (queue_of s (vault_of m p.block)) 0) id ≡ true → Invariants m (in_phase (record s { queues = change_at s.queues (vault_of m p.block) (drop 1) }) id phase.Acted)
@@ -197,7 +199,7 @@ act_step m s id p h e sealed head =
     let split = head_is (queue_of s (vault_of m p.block)) id head
     in requeued_step m s id phase.Acted p (change_at s.queues (vault_of m p.block) (drop 1)) h e (active_by_phase p phase.Sealed sealed refl)
     (λ q. absurd (cc q))
-    (length-change_at (drop 1) s.queues (vault_of m p.block) ∙ h.sizes.queues)
+    (length-change_at s.queues (vault_of m p.block) (drop 1) ∙ h.sizes.queues)
     (λ w. by_vault split.0 split.1 (omega (arith, h.sizes.queues, m.vaults_in_limits)) w (vault_of m p.block == w) refl)
   where
     v : ℕ
@@ -208,7 +210,7 @@ act_step m s id p h e sealed head =
 
     by_name : (rest : List PeiId) → queue_of s (vault_of m p.block) ≡ id ∷ rest → Each (λ q. same_pei id q ≡ false) rest → (n : PeiId) (t : Bool) → same_pei id n ≡ t → list_any (λ q. same_pei q n) rest ≡ list_any (is_sealed_in m (vault_of m p.block) n) (map (with_phase id phase.Acted) s.peis)
     by_name rest q apart n true t =
-        let same : id ≡ n = pei_same id n t
+        let same : id ≡ n = same_pei_is id n t
         in absent_any id n rest apart same ∙ sym (rw (← same) (acted_here m s id (vault_of m p.block)))
     by_name rest q apart n false t =
         let whole : list_any (λ a. same_pei a n) (id ∷ rest) ≡ list_any (λ a. same_pei a n) rest = rw t
@@ -218,8 +220,8 @@ act_step m s id p h e sealed head =
 
     by_vault : (rest : List PeiId) → queue_of s (vault_of m p.block) ≡ id ∷ rest → vault_of m p.block < length s.queues → (w : ℕ) (t : Bool) → (vault_of m p.block == w) ≡ t → HasQueue m (record s { peis = map (with_phase id phase.Acted) s.peis; queues = all }) w
     by_vault rest split inside w true t =
-        let same : vault_of m p.block ≡ w = same_number (vault_of m p.block) w t
-        in let q : list_at all (vault_of m p.block) ≡ rest = list_at-change_same (drop 1) s.queues (vault_of m p.block) inside ∙ ap (drop 1) split
+        let same : vault_of m p.block ≡ w = eqb-true (vault_of m p.block) w t
+        in let q : list_at all (vault_of m p.block) ≡ rest = list_at-change_at_same s.queues (vault_of m p.block) (drop 1) inside ∙ ap (drop 1) split
         in let old = h.queues (vault_of m p.block)
         in let apart : EachPair (λ a b. same_pei a b ≡ false) (id ∷ rest) = subst (λ qs. EachPair (λ a b. same_pei a b ≡ false) qs) split old.apart
         in let size : length (id ∷ rest) ≤ m.queue = subst (λ qs. length qs ≤ m.queue) split old.within
@@ -249,12 +251,12 @@ leave_step m s id p h e before =
       agree = h.agree;
       together = EachPair-filter (GoTogether m) (λ x. not (same_pei x.id id)) s.peis h.together;
       on_the_way =
-          Each-weaker (IsOnItsWay m s) (IsOnItsWay m (after_leaving s id)) (λ x k. record { core = k.core; lane = k.lane; counted = k.counted; seal = k.seal }) (without (λ x. same_pei x.id id) s.peis)
-          (Each-filter (IsOnItsWay m s) (λ x. not (same_pei x.id id)) s.peis h.on_the_way);
+          each_weaker (IsOnItsWay m s) (IsOnItsWay m (after_leaving s id)) (λ x k. record { core = k.core; lane = k.lane; counted = k.counted; seal = k.seal }) (without (λ x. same_pei x.id id) s.peis)
+          (each_filter (IsOnItsWay m s) (λ x. not (same_pei x.id id)) s.peis h.on_the_way);
       queues = λ v. let q = h.queues v in record {
         within = q.within;
         apart = q.apart;
-        sealed = λ n. q.sealed n ∙ sym (any-without (is_sealed_in m v n) (λ x. same_pei x.id id) s.peis (Each-weaker (λ x. same_pei x.id id ≡ true → x ≡ p) (λ x. same_pei x.id id ≡ true → is_sealed_in m v n x ≡ false) (λ x k t. gone x (same_pei x.id n) (vault_of m x.block == v) (k t)) s.peis (only_of m s id p h e)));
+        sealed = λ n. q.sealed n ∙ sym (any-without (is_sealed_in m v n) (λ x. same_pei x.id id) s.peis (each_weaker (λ x. same_pei x.id id ≡ true → x ≡ p) (λ x. same_pei x.id id ≡ true → is_sealed_in m v n x ≡ false) (λ x k t. gone x (same_pei x.id n) (vault_of m x.block == v) (k t)) s.peis (only_of m s id p h e)));
       };
     }
   where
@@ -272,7 +274,7 @@ fence_step m s i o h =
       sets = record { l1 = h.sets.l1; llc = h.sets.llc; monitor = h.sets.monitor };
       agree = h.agree;
       together = h.together;
-      on_the_way = Each-weaker (IsOnItsWay m s) (IsOnItsWay m (record s { fences = slice_set s.fences i o })) (λ x k. record { core = k.core; lane = k.lane; counted = k.counted; seal = k.seal }) s.peis h.on_the_way;
+      on_the_way = each_weaker (IsOnItsWay m s) (IsOnItsWay m (record s { fences = slice_set s.fences i o })) (λ x k. record { core = k.core; lane = k.lane; counted = k.counted; seal = k.seal }) s.peis h.on_the_way;
       queues = λ v. let q = h.queues v in record { within = q.within; apart = q.apart; sealed = q.sealed };
     }
 
@@ -294,32 +296,25 @@ lanes_in_range : (a n : ℕ) → Each (λ (l : Lane). (a ≤ l.0) × (l.0 < a + 
 lanes_in_range a zero = tt
 lanes_in_range a (suc n) = (
   (omega arith, omega arith),
-  Each-weaker (λ (l : Lane). (a + 1 ≤ l.0) × (l.0 < a + 1 + n)) (λ (l : Lane). (a ≤ l.0) × (l.0 < a + suc n)) (λ l k. (omega (arith, k.0), omega (arith, k.1))) (map (λ l. record { 0 = l }) (range_with_len (a + 1) n)) (lanes_in_range (a + 1) n),
+  each_weaker (λ (l : Lane). (a + 1 ≤ l.0) × (l.0 < a + 1 + n)) (λ (l : Lane). (a ≤ l.0) × (l.0 < a + suc n)) (λ l k. (omega (arith, k.0), omega (arith, k.1))) (map (λ l. record { 0 = l }) (range_with_len (a + 1) n)) (lanes_in_range (a + 1) n),
 )
 
 lane_found : (o : Option Lane) (l : Lane) → is_lane o l ≡ true → (k : Lane) × (o ≡ Some k) × (same_lane k l ≡ true)
 lane_found None l h = absurd (cc h)
 lane_found (Some k) l h = (k, refl, h)
 
-pub lane_same : (a b : Lane) → same_lane a b ≡ true → a ≡ b
-lane_same a b h = ap (λ n. let x : Lane = record { 0 = n } in x) (same_number a.0 b.0 h)
-
-none_of : {A : Type 0} (o : Option A) → is_none o ≡ true → o ≡ None
-none_of None h = refl
-none_of (Some x) h = absurd (cc h)
-
 -- a lane that is free: in range, and no PEI of the core is in it
 pub free_lane_is_free : (m : MachineSpec) (s : State) (c : CoreId) (l : Lane) → is_lane (free_lane m s c) l ≡ true → (0 < l.0) × (l.0 ≤ m.buffer) × Each (λ p. (same_core p.id.core c && same_lane p.lane l) ≡ false) s.peis
 free_lane_is_free m s c l h =
     let k = lane_found (free_lane m s c) l h
-    in let same : k.0 ≡ l = lane_same k.0 l k.2
+    in let same : k.0 ≡ l = same_lane_is k.0 l k.2
     in let found : find (λ x. is_none (look_in s c x)) (lanes_of m) ≡ Some l = k.1 ∙ ap (λ x. Some x) same
     in let range : (1 ≤ l.0) × (l.0 < 1 + m.buffer) = found_has (λ (x : Lane). (1 ≤ x.0) × (x.0 < 1 + m.buffer)) (λ x. is_none (look_in s c x)) (lanes_of m) l (lanes_in_range 1 m.buffer) found
-    in let empty : look_in s c l ≡ None = none_of (look_in s c l) (found_passes (λ x. is_none (look_in s c x)) (lanes_of m) l found)
+    in let empty : look_in s c l ≡ None = none_is (look_in s c l) (found_passes (λ x. is_none (look_in s c x)) (lanes_of m) l found)
     in (omega (arith, range.0), omega (arith, range.1), none_pass (λ p. same_core p.id.core c && same_lane p.lane l) s.peis empty)
 
 earlier_name : (p : PeiId) (c : CoreId) (n : ℕ) (t u : Bool) → same_core p.core c ≡ t → (p.seq == n) ≡ u → (p.core ≡ c → p.seq < n) → (t && u) ≡ false
-earlier_name p c n true true a b h = absurd (let k : p.seq < n = h (core_same p.core c a) in let q : p.seq ≡ n = same_number p.seq n b in omega (arith, k, q))
+earlier_name p c n true true a b h = absurd (let k : p.seq < n = h (same_core_is p.core c a) in let q : p.seq ≡ n = eqb-true p.seq n b in omega (arith, k, q))
 earlier_name p c n true false a b h = refl
 earlier_name p c n false u a b h = refl
 
@@ -328,14 +323,14 @@ pub issue_step : (m : MachineSpec) (s : State) (c : CoreId) (new : PeiLook) → 
 issue_step m s c new h k lane seq core ph =
     let t : State = record s { peis = s.peis ++ new ∷ []; issues = change_at s.issues c.0 suc }
     in let free = free_lane_is_free m s c new.lane lane
-    in let number : new.id.seq ≡ slice_index s.issues c.0 = same_number new.id.seq (slice_index s.issues c.0) seq
+    in let number : new.id.seq ≡ slice_index s.issues c.0 = eqb-true new.id.seq (slice_index s.issues c.0) seq
     in record {
-      sizes = record { cores = h.sizes.cores; l1_sets = h.sizes.l1_sets; llc_sets = h.sizes.llc_sets; monitor_sets = h.sizes.monitor_sets; issues = length-change_at suc s.issues c.0 ∙ h.sizes.issues; queues = h.sizes.queues; fences = h.sizes.fences };
+      sizes = record { cores = h.sizes.cores; l1_sets = h.sizes.l1_sets; llc_sets = h.sizes.llc_sets; monitor_sets = h.sizes.monitor_sets; issues = length-change_at s.issues c.0 suc ∙ h.sizes.issues; queues = h.sizes.queues; fences = h.sizes.fences };
       sets = record { l1 = h.sets.l1; llc = h.sets.llc; monitor = h.sets.monitor };
       agree = h.agree;
       together =
           EachPair-append (GoTogether m) s.peis (new ∷ []) h.together (tt, tt)
-          (Each-weaker (λ p. IsOnItsWay m s p × ((same_core p.id.core c && same_lane p.lane new.lane) ≡ false)) (λ p. Each (GoTogether m p) (new ∷ []))
+          (each_weaker (λ p. IsOnItsWay m s p × ((same_core p.id.core c && same_lane p.lane new.lane) ≡ false)) (λ p. Each (GoTogether m p) (new ∷ []))
           (λ p x. (
             record {
               names = earlier_name p.id new.id.core new.id.seq (same_core p.id.core new.id.core) (p.id.seq == new.id.seq) refl refl (λ q. older p x.0.counted (q ∙ core) number);
@@ -344,10 +339,10 @@ issue_step m s c new h k lane seq core ph =
             },
             tt,
           ))
-          s.peis (Each-both (IsOnItsWay m s) (λ p. (same_core p.id.core c && same_lane p.lane new.lane) ≡ false) s.peis h.on_the_way free.2));
+          s.peis (each_both (IsOnItsWay m s) (λ p. (same_core p.id.core c && same_lane p.lane new.lane) ≡ false) s.peis h.on_the_way free.2));
       on_the_way =
-          Each-append (IsOnItsWay m t) s.peis (new ∷ [])
-          (Each-weaker (IsOnItsWay m s) (IsOnItsWay m t) (λ p x. record { core = x.core; lane = x.lane; counted = omega (arith, x.counted, count_more s.issues c.0 p.id.core.0); seal = x.seal }) s.peis h.on_the_way) (
+          each_append (IsOnItsWay m t) s.peis (new ∷ [])
+          (each_weaker (IsOnItsWay m s) (IsOnItsWay m t) (λ p x. record { core = x.core; lane = x.lane; counted = omega (arith, x.counted, count_more s.issues c.0 p.id.core.0); seal = x.seal }) s.peis h.on_the_way) (
             record {
               core = rw core k;
               lane = (free.0, free.1);

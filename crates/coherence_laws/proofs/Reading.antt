@@ -15,8 +15,8 @@ use Rattle.pei_types.specs.Coherence.{State, look_of, letter_of, mark_of, is_pha
 use Rattle.coherence_laws.specs.Data.{Data, BlockHolds, DataHolds, BuffersHold}
 use Rattle.coherence_laws.specs.Invariants.{Invariants, SealHolds}
 use Rattle.coherence_laws.proofs.DataKeeps.{not_owned_not_m}
-use Rattle.coherence_laws.proofs.Lists.{found_has}
 use Rattle.coherence_laws.proofs.Steps.{seals_of}
+use Rattle.pei_types.proofs.Lists.{found_has}
 
 -- the buffer of a PEI between its read and its act
 pub buffer_has_content : (m : MachineSpec) (s : State) (d : Data) (flat : BlockNo → Block) (id : PeiId) (p : PeiLook) → BuffersHold s d flat → look_of s id ≡ Some p → is_phase p.phase phase.Read ≡ true → d.buffer p.id ≡ flat p.block

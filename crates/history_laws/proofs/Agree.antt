@@ -1,5 +1,5 @@
 -- The state and the history agree after one more event.
-use Rattle.std.proofs.Common.{◌≡◌, ◌⊎◌, inl, inr, ℕ, suc, ◌+◌, ◌<◌, ◌≤◌, Bool, true, false, not, ◌&&◌, ◌||◌, if◌then◌else◌, List, [], ◌∷◌, ◌++◌, map, length, filter, find, fold, Option, Some, None, option_map, MatchOption, IsTrue, get_or, eqb, nat_lt, ltb-true, ltb-false, slice_index, slice_set, AllPairs, refl, sym, ◌∙◌, ap, ap₂, subst, arith, eqb-true, eq-eqb}
+use Rattle.std.proofs.Common.{◌≡◌, ◌⊎◌, inl, inr, ℕ, suc, ◌+◌, ◌<◌, ◌≤◌, Bool, true, false, not, ◌&&◌, ◌||◌, if◌then◌else◌, List, [], ◌∷◌, ◌++◌, map, length, filter, find, fold, Option, Some, None, option_map, MatchOption, IsTrue, get_or, nat_lt, ltb-true, ltb-false, slice_index, slice_set, AllPairs, refl, sym, ◌∙◌, ap, ap₂, subst, arith, eq-eqb}
 use Rattle.std.specs.List.{list_any, cons_option, AllByRecursion}
 use Rattle.std.proofs.lemmas.List.{map_push, length_push, length-map, append-nil, get_or-set_same, get_or-set_other, length-set}
 use Rattle.std.proofs.lemmas.List.Folds.{find-append}
@@ -29,32 +29,18 @@ use Rattle.pei_types.specs.Operation.{is_writer}
 use Rattle.pei_types.specs.Recency.{change_at, without}
 use Rattle.history_laws.specs.Tracking.{as_issued, issued_by, issue_count, fence_is_on, writers_awaited, fence_in, IsTracked, Agrees}
 use Rattle.history_laws.specs.Members.{In}
-use Rattle.history_laws.proofs.Lists.{or-false, any_none, each_map, each_filter, each_push, each_weaker, get_or_in, get_or-map_default, length-change_at, get_or-change_at_same, get_or-change_at_other, eqb_sym, eqb_refl, or_parts_cases, or_right_true, and_both, or_parts, filter-map, filter-filter, map-map}
-use Rattle.history_laws.proofs.Grows.{and-false, and-true, leaves, enters, acts, has_left-push, has_entered-push, has_acted-push, named-push, leaves_about, enters_about, acts_about, left_kept, entered_kept, acted_kept, phase_kept, phase_set, pei_kept, issued_kept, issued_more, left_none, left_more, unfinished_kept, unfinished_left, fence_is_on-push, before_fence_kept, before_fence_here, fence_kept}
+use Rattle.history_laws.proofs.Lists.{any_none, each_kept, get_or_in, get_or-map_default, get_or-change_at_same, get_or-change_at_other, or_parts_cases, filter-map, filter-filter, map-map}
+use Rattle.history_laws.proofs.Grows.{and-true, leaves, enters, acts, has_left-push, has_entered-push, has_acted-push, named-push, leaves_about, enters_about, acts_about, left_kept, entered_kept, acted_kept, phase_kept, phase_set, pei_kept, issued_kept, issued_more, left_none, left_more, unfinished_kept, unfinished_left, fence_is_on-push, before_fence_kept, before_fence_here, fence_kept}
+use Rattle.std.proofs.lemmas.Bool.{not-true, and_parts, or_parts, or_right}
+use Rattle.pei_types.proofs.Identities.{same_pei_refl, same_pei_is, same_pei_sym, same_core_is}
+use Rattle.std.proofs.Math.Bool.{or-false, and-false}
+use Rattle.pei_types.proofs.Lists.{length-change_at, each_map, each_weaker, each_append}
+use Rattle.pei_types.proofs.Tests.{same_self}
 
 -- ---- names
 
-make_id : ℕ → ℕ → PeiId
-make_id c n = record { core = record { 0 = c }; seq = n }
-
 make_core : ℕ → CoreId
 make_core c = record { 0 = c }
-
-pub same_core_is : (a b : CoreId) → same_core a b ≡ true → a ≡ b
-unfolding make_core
-same_core_is a b h = ap make_core (eqb-true a.0 b.0 h)
-
-pub same_pei_is : (p q : PeiId) → same_pei p q ≡ true → p ≡ q
-unfolding make_id
-same_pei_is p q h =
-    let both = and_both (eqb p.core.0 q.core.0) (eqb p.seq q.seq) h
-    in ap₂ make_id (eqb-true p.core.0 q.core.0 both.0) (eqb-true p.seq q.seq both.1)
-
-pub same_pei_refl : (p : PeiId) → same_pei p p ≡ true
-same_pei_refl p = rw (eqb_refl p.core.0) (eqb_refl p.seq)
-
-pub same_pei_sym : (p q : PeiId) → same_pei p q ≡ same_pei q p
-same_pei_sym p q = ap₂ (λ x y. x && y) (eqb_sym p.core.0 q.core.0) (eqb_sym p.seq q.seq)
 
 -- ---- what has no event about it
 
@@ -88,7 +74,7 @@ issued_named (e ∷ events) p i = by (named_step e.actor e.kind (issued_peis eve
   where
     by : ((is_about p.id e ≡ true) ⊎ In p (issued_peis events)) → (In p (issued_peis events) → list_any (is_about p.id) events ≡ true) → (is_about p.id e || list_any (is_about p.id) events) ≡ true
     by (inl h) rest = rw h refl
-    by (inr j) rest = or_right_true (is_about p.id e) (list_any (is_about p.id) events) (rest j)
+    by (inr j) rest = or_right (is_about p.id e) (list_any (is_about p.id) events) (rest j)
 
 -- a PEI whose phase is Acted has acted
 acted_kind : (kind : EventKind) (b : Bool) (n : ℕ) → b ≡ true → phase_after kind ≡ Some phase.Acted → is_number (seq_named kind) n ≡ true → (b && is_act kind n) ≡ true
@@ -103,13 +89,13 @@ acted_since id (e ∷ events) ph h = by (acted_since id events (if is_about id e
   where
     one : (b : Bool) → is_about id e ≡ b → (if b then phase_after e.kind else ph) ≡ Some phase.Acted → (ph ≡ Some phase.Acted) ⊎ ((acts id e || has_acted events id) ≡ true)
     one true q g =
-        let both = and_both (same_core e.actor.core id.core) (is_number (seq_named e.kind) id.seq) q
+        let both = and_parts (same_core e.actor.core id.core) (is_number (seq_named e.kind) id.seq) q
         in inr (rw (acted_kind e.kind (same_core e.actor.core id.core) id.seq both.0 g both.1) refl)
     one false q g = inl g
 
     by : ((if is_about id e then phase_after e.kind else ph) ≡ Some phase.Acted) ⊎ (has_acted events id ≡ true) → (ph ≡ Some phase.Acted) ⊎ ((acts id e || has_acted events id) ≡ true)
     by (inl g) = one (is_about id e) refl g
-    by (inr g) = inr (or_right_true (acts id e) (has_acted events id) g)
+    by (inr g) = inr (or_right (acts id e) (has_acted events id) g)
 
 pub acted_by_phase : (events : List Event) (id : PeiId) → phase_of events id ≡ Some phase.Acted → has_acted events id ≡ true
 acted_by_phase events id h = by (acted_since id events None h)
@@ -148,7 +134,7 @@ tracked_moved : (journal : List Event) (a : Actor) (kind : EventKind) (seq : ℕ
 tracked_moved journal a kind seq ph l moves same follows t =
     let e : Event = record { actor = a; kind = kind }
     in let about : is_about l.id e ≡ true = rw (same, moves.names) (same_pei_refl (pei_id a seq))
-    in let core : same_core a.core l.id.core ≡ true = rw same (eqb_refl a.core.0)
+    in let core : same_core a.core l.id.core ≡ true = rw same (same_self a.core.0)
     in record {
       stands = phase_set journal e l.id about ∙ moves.after;
       found = pei_kept journal e l.id (as_issued l) t.found;
@@ -231,7 +217,7 @@ agrees_moved m s t journal a kind seq ph moves peis issues fences follows g =
     in let none_leaves : (id : PeiId) → leaves id e ≡ false = λ id. rw (moves.leave id.seq) (and-false (same_core a.core id.core))
     in record {
       unfinished = unfinished_kept journal e (moves.issues a) none_leaves ∙ g.unfinished ∙ sym (as_issued_moved (pei_id a seq) ph s.peis) ∙ ap (map as_issued) (sym peis);
-      tracked = subst (λ ls. AllByRecursion (IsTracked (journal ++ e ∷ [])) ls) (sym peis) (each_map (IsTracked journal) (IsTracked (journal ++ e ∷ [])) (with_phase (pei_id a seq) ph) s.peis (tracked_step journal a kind seq ph moves follows) g.tracked);
+      tracked = subst (λ ls. AllByRecursion (IsTracked (journal ++ e ∷ [])) ls) (sym peis) (each_map (IsTracked journal) (IsTracked (journal ++ e ∷ [])) (with_phase (pei_id a seq) ph) (tracked_step journal a kind seq ph moves follows) s.peis g.tracked);
       counts = λ c. ap (λ ns. slice_index ns c.0) issues ∙ g.counts c ∙ sym (counts_kept journal e c (moves.issues a));
       fences = λ c. ap (λ fs. get_or fs c.0 None) fences ∙ g.fences c ∙ sym (fence_kept c journal e (moves.begins c a) (moves.ends c a) none_leaves);
       cores_counted = ap length issues ∙ g.cores_counted;
@@ -270,7 +256,7 @@ agrees_beside m s t journal a kind quiet peis issues fences cores g =
     in let none_about : (id : PeiId) → is_about id e ≡ false = λ id. quiet_about kind (same_core a.core id.core) id.seq quiet
     in record {
       unfinished = unfinished_kept journal e (quiet.issues a) none_leaves ∙ g.unfinished ∙ ap (map as_issued) (sym peis);
-      tracked = subst (λ ls. AllByRecursion (IsTracked (journal ++ e ∷ [])) ls) (sym peis) (each_weaker (IsTracked journal) (IsTracked (journal ++ e ∷ [])) s.peis (λ l. tracked_kept journal e l (none_about l.id)) g.tracked);
+      tracked = subst (λ ls. AllByRecursion (IsTracked (journal ++ e ∷ [])) ls) (sym peis) (each_weaker (IsTracked journal) (IsTracked (journal ++ e ∷ [])) (λ l. tracked_kept journal e l (none_about l.id)) s.peis g.tracked);
       counts = λ c. ap (λ ns. slice_index ns c.0) issues ∙ g.counts c ∙ sym (counts_kept journal e c (quiet.issues a));
       fences = fences;
       cores_counted = ap length issues ∙ g.cores_counted;
@@ -305,16 +291,16 @@ writers_agree m s journal g =
     ∙ map-map (λ p. p.id) as_issued (filter (λ l. is_writer l.op) s.peis)
 
 pub fence_on_here : (journal : List Event) (a : Actor) → fence_is_on a.core (journal ++ record { actor = a; kind = event.FenceBegin } ∷ []) ≡ true
-fence_on_here journal a = fence_is_on-push a.core journal (record { actor = a; kind = event.FenceBegin }) ∙ rw (eqb_refl a.core.0) refl
+fence_on_here journal a = fence_is_on-push a.core journal (record { actor = a; kind = event.FenceBegin }) ∙ rw (same_self a.core.0) refl
 
 pub fence_off_here : (journal : List Event) (a : Actor) → fence_is_on a.core (journal ++ record { actor = a; kind = event.FenceEnd } ∷ []) ≡ false
-fence_off_here journal a = fence_is_on-push a.core journal (record { actor = a; kind = event.FenceEnd }) ∙ rw (eqb_refl a.core.0) (and-false (fence_is_on a.core journal))
+fence_off_here journal a = fence_is_on-push a.core journal (record { actor = a; kind = event.FenceEnd }) ∙ rw (same_self a.core.0) (and-false (fence_is_on a.core journal))
 
 fence_in_here : (m : MachineSpec) (s : State) (journal : List Event) (a : Actor) → Agrees m s journal → fence_in a.core (journal ++ record { actor = a; kind = event.FenceBegin } ∷ []) ≡ Some (unfinished_writers s)
 fence_in_here m s journal a g =
     let e : Event = record { actor = a; kind = event.FenceBegin }
     in ap (λ on. if on then Some (writers_awaited a.core (journal ++ e ∷ [])) else None) (fence_on_here journal a)
-    ∙ ap Some (ap (λ ps. map (λ p. p.id) (filter (λ p. is_writer p.op) (filter (λ p. not (has_left (journal ++ e ∷ []) p.id)) (issued_peis ps)))) (before_fence_here a.core journal e (rw (eqb_refl a.core.0) refl))
+    ∙ ap Some (ap (λ ps. map (λ p. p.id) (filter (λ p. is_writer p.op) (filter (λ p. not (has_left (journal ++ e ∷ []) p.id)) (issued_peis ps)))) (before_fence_here a.core journal e (rw (same_self a.core.0) refl))
     ∙ ap (λ ps. map (λ p. p.id) (filter (λ p. is_writer p.op) ps)) (left_none journal e (issued_peis journal) (λ id. and-false (same_core a.core id.core)))
     ∙ writers_agree m s journal g)
 
@@ -354,10 +340,6 @@ agrees_end m s t journal a peis issues fences within g =
 
 leave_about : (a : Actor) (seq : ℕ) (id : PeiId) → is_about id (record { actor = a; kind = event.Leave seq }) ≡ same_pei id (pei_id a seq)
 leave_about a seq id = same_pei_sym (pei_id a seq) id
-
-pub not_true : (x : Bool) → not x ≡ true → x ≡ false
-not_true true h = absurd (cc h)
-not_true false h = refl
 
 -- the awaited writers without the one that leaves
 awaited_left : (c : CoreId) (journal : List Event) (a : Actor) (seq : ℕ) → writers_awaited c (journal ++ record { actor = a; kind = event.Leave seq } ∷ []) ≡ without (λ q. same_pei q (pei_id a seq)) (writers_awaited c journal)
@@ -400,7 +382,7 @@ agrees_left m s t journal a seq peis issues fences follows g =
           ∙ ap (map as_issued) (sym peis);
       tracked =
           subst (λ ls. AllByRecursion (IsTracked (journal ++ e ∷ [])) ls) (sym peis)
-          (each_filter (IsTracked journal) (IsTracked (journal ++ e ∷ [])) (λ l. not (same_pei l.id id)) s.peis (λ l h. tracked_kept journal e l (leave_about a seq l.id ∙ not_true (same_pei l.id id) h)) g.tracked);
+          (each_kept (IsTracked journal) (IsTracked (journal ++ e ∷ [])) (λ l. not (same_pei l.id id)) s.peis (λ l h. tracked_kept journal e l (leave_about a seq l.id ∙ not-true (same_pei l.id id) h)) g.tracked);
       counts = λ c. ap (λ ns. slice_index ns c.0) issues ∙ g.counts c ∙ sym (counts_kept journal e c refl);
       fences =
           λ c. ap (λ fs. get_or fs c.0 None) fences ∙ get_or-map_default (option_map (without (λ q. same_pei q id))) s.fences c.0 None
@@ -476,7 +458,7 @@ issue_count_own journal a seq lane o b operands =
     let p : Pei = as_issued (new_look a seq lane o b operands)
     in ap (λ ps. length (filter (λ q. same_core q.id.core a.core) ps)) (issued_more journal (record { actor = a; kind = event.Issue seq lane o b operands }) p refl)
     ∙ ap length (filter-append (λ q. same_core q.id.core a.core) (issued_peis journal) (p ∷ []))
-    ∙ rw (eqb_refl a.core.0) (length_push (issued_by a.core journal) p)
+    ∙ rw (same_self a.core.0) (length_push (issued_by a.core journal) p)
 
 issue_count_other : (journal : List Event) (a : Actor) (seq : ℕ) (lane : Lane) (o : Op) (b : BlockNo) (operands : Operands) (c : CoreId) → same_core a.core c ≡ false → issue_count c (journal ++ record { actor = a; kind = event.Issue seq lane o b operands } ∷ []) ≡ issue_count c journal
 issue_count_other journal a seq lane o b operands c h =
@@ -503,7 +485,7 @@ agrees_issued m s t journal a seq lane o b operands peis issues fences f g =
           ∙ sym (map_push as_issued s.peis l) ∙ ap (map as_issued) (sym peis);
       tracked =
           subst (λ ls. AllByRecursion (IsTracked (journal ++ e ∷ [])) ls) (sym peis)
-          (each_push (IsTracked (journal ++ e ∷ [])) s.peis l (each_weaker (IsTracked journal) (IsTracked (journal ++ e ∷ [])) s.peis (λ k t. tracked_kept journal e k (tracked_other journal id k unnamed t) t) g.tracked) (tracked_new journal a seq lane o b operands unnamed));
+          (each_append (IsTracked (journal ++ e ∷ [])) s.peis (l ∷ []) (each_weaker (IsTracked journal) (IsTracked (journal ++ e ∷ [])) (λ k t. tracked_kept journal e k (tracked_other journal id k unnamed t) t) s.peis g.tracked) ((tracked_new journal a seq lane o b operands unnamed), tt));
       counts = λ c. ap (λ ns. slice_index ns c.0) issues ∙ count_of c (same_core a.core c) refl;
       fences = λ c. ap (λ fs. get_or fs c.0 None) fences ∙ g.fences c ∙ sym (fence_kept c journal e (and-false (same_core a.core c)) (and-false (same_core a.core c)) (λ i. and-false (same_core a.core i.core)));
       cores_counted = ap length issues ∙ length-change_at s.issues a.core.0 suc ∙ g.cores_counted;

@@ -35,18 +35,13 @@ use Rattle.history_laws.specs.Tracking.{as_issued, is_past_issue, Agrees, issues
 use Rattle.history_laws.specs.Entering.{InTurn, enters_rightly}
 use Rattle.history_laws.specs.Fences.{Settles, fences_rightly}
 use Rattle.history_laws.specs.Fits.{Fits, FitsProgram, FitsPei, AsksForFence}
-use Rattle.history_laws.proofs.Lists.{find_Some, find_None, find_first, in_filter, filter_in, in_map, and_both, all_in, any_false, or_parts_cases}
-use Rattle.history_laws.proofs.Agree.{same_pei_is, same_core_is, same_pei_refl}
+use Rattle.history_laws.proofs.Lists.{find_Some, find_None, find_first, in_filter, filter_in, in_map, all_in, any_false, or_parts_cases}
 use Rattle.history_laws.proofs.Derived.{look_tracked, look_unfinished, look_same, conflict_agrees, active_agrees, all_left_agrees, fence_ends_rightly}
 use Rattle.history_laws.proofs.Entering.{issued_rise}
 use Rattle.history_laws.proofs.Issues.{IssuedAt, issued_at}
-
-make_block : ℕ → BlockNo
-make_block n = record { 0 = n }
-
-same_block_is : (a b : BlockNo) → same_block a b ≡ true → a ≡ b
-unfolding make_block
-same_block_is a b h = ap make_block (eqb-true a.0 b.0 h)
+use Rattle.std.proofs.Math.Bool.{or_comm}
+use Rattle.pei_types.proofs.Identities.{same_block_is, same_pei_refl, same_pei_is, same_core_is}
+use Rattle.std.proofs.lemmas.Bool.{and_parts}
 
 -- ---- the PEI of an event
 
@@ -65,7 +60,7 @@ pub of_lane : (m : MachineSpec) (s : State) (journal : List Event) (a : Actor) (
 unfolding join_id
 of_lane m s journal a seq l g h n =
     let seen = find_Some (λ p. same_core p.id.core a.core && same_lane p.lane a.lane) s.peis l h
-    in let both = and_both (same_core l.id.core a.core) (same_lane l.lane a.lane) seen.1
+    in let both = and_parts (same_core l.id.core a.core) (same_lane l.lane a.lane) seen.1
     in let named : l.id ≡ pei_id a seq = ap₂ join_id (same_core_is l.id.core a.core both.0) n
     in let t = look_tracked m s journal g l seen.0
     in record {
@@ -192,18 +187,12 @@ left_or_look m s journal g p i = by (has_left journal p.id) refl
 -- what comes first is on the block, or stands before a fence
 first_cases : (c : CoreId) (b : BlockNo) (writes : Bool) (rest : List Event) (p : Pei) → comes_first c b writes rest p ≡ true → (same_core p.id.core c ≡ true) × (((same_block p.block b && (is_writer p.op || writes)) ≡ true) ⊎ ((is_writer p.op ≡ true) × (list_any (ends_fence c) rest ≡ true)))
 first_cases c b writes rest p h =
-    let both = and_both (same_core p.id.core c) (same_block p.block b && (is_writer p.op || writes) || is_writer p.op && list_any (ends_fence c) rest) h
+    let both = and_parts (same_core p.id.core c) (same_block p.block b && (is_writer p.op || writes) || is_writer p.op && list_any (ends_fence c) rest) h
     in (both.0, by (or_parts_cases (same_block p.block b && (is_writer p.op || writes)) (is_writer p.op && list_any (ends_fence c) rest) both.1))
   where
     by : ((same_block p.block b && (is_writer p.op || writes)) ≡ true) ⊎ ((is_writer p.op && list_any (ends_fence c) rest) ≡ true) → ((same_block p.block b && (is_writer p.op || writes)) ≡ true) ⊎ ((is_writer p.op ≡ true) × (list_any (ends_fence c) rest ≡ true))
     by (inl k) = inl k
-    by (inr k) = inr (and_both (is_writer p.op) (list_any (ends_fence c) rest) k)
-
-or_comm : (x y : Bool) → (x || y) ≡ (y || x)
-or_comm true true = refl
-or_comm true false = refl
-or_comm false true = refl
-or_comm false false = refl
+    by (inr k) = inr (and_parts (is_writer p.op) (list_any (ends_fence c) rest) k)
 
 -- an access that races with nothing
 access_in_order : (m : MachineSpec) (s : State) (journal : List Event) (c : CoreId) (b : BlockNo) (writes : Bool) → conflict s b writes ≡ None → Agrees m s journal → Settles journal → IsTrue (earlier_acted (has_acted journal) c b writes journal)
@@ -260,7 +249,7 @@ act_in_order m s journal l i past g turn st = earlier_acted_by (has_acted journa
             let own : same_core k.id.core l.id.core ≡ true = subst (λ z. same_core z.id.core l.id.core ≡ true) r cases.0
             in let lower : k.id.seq < l.id.seq = subst (λ z. z.id.seq < l.id.seq) r (at.lower p before cases.0)
             in let other : same_pei k.id l.id ≡ false = differ k lower (same_pei k.id l.id) refl
-            in let parts = and_both (same_block k.block l.block) (is_writer k.op || is_writer l.op) (subst (λ z. (same_block z.block l.block && (is_writer z.op || is_writer l.op)) ≡ true) r both)
+            in let parts = and_parts (same_block k.block l.block) (is_writer k.op || is_writer l.op) (subst (λ z. (same_block z.block l.block && (is_writer z.op || is_writer l.op)) ≡ true) r both)
             in let entry : eqb (entry_of m k.block) (entry_of m l.block) ≡ true = eq-eqb (entry_of m k.block) (entry_of m l.block) (ap (entry_of m) (same_block_is k.block l.block parts.0))
             in absurd (cc (sym (conflict_of entry parts.1) ∙ turn.alone k l j i other (turn.entered k l j i own lower past) past))
           where
@@ -268,7 +257,7 @@ act_in_order m s journal l i past g turn st = earlier_acted_by (has_acted journa
             conflict_of u v = rw (u, v) refl
 
             differ : (z : PeiLook) → z.id.seq < l.id.seq → (b : Bool) → same_pei z.id l.id ≡ b → same_pei z.id l.id ≡ false
-            differ z u true h = absurd (irreflexive (eqb-true z.id.seq l.id.seq (and_both (same_core z.id.core l.id.core) (eqb z.id.seq l.id.seq) h).1))
+            differ z u true h = absurd (irreflexive (eqb-true z.id.seq l.id.seq (and_parts (same_core z.id.core l.id.core) (eqb z.id.seq l.id.seq) h).1))
               where
                 irreflexive : z.id.seq ≡ l.id.seq → ⊥
                 irreflexive w = omega (arith, w, u)

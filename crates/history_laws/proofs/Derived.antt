@@ -21,8 +21,13 @@ use Rattle.pei_types.specs.Operation.{is_writer}
 use Rattle.pei_types.specs.Race.{racing_pei}
 use Rattle.history_laws.specs.Tracking.{as_issued, is_past_issue, issue_count, fence_is_on, writers_awaited, fence_in, IsTracked, Agrees}
 use Rattle.history_laws.specs.Members.{In}
-use Rattle.history_laws.proofs.Lists.{find_Some, find_first, in_map, each_of, each_weaker, find-map, find_agree, filter-map, filter_agree_each, find_None, all_in, filter_in, map_in, and_both, some_is}
-use Rattle.history_laws.proofs.Agree.{same_pei_is, same_pei_refl, phase_none}
+use Rattle.history_laws.proofs.Lists.{find_Some, find_first, in_map, each_of, find-map, find_agree, filter-map, filter_agree_each, find_None, all_in, filter_in, map_in}
+use Rattle.history_laws.proofs.Agree.{phase_none}
+use Rattle.std.proofs.Math.Bool.{not-not}
+use Rattle.std.proofs.lemmas.Bool.{and_parts}
+use Rattle.std.proofs.lemmas.Option.{same_Some}
+use Rattle.pei_types.proofs.Identities.{same_pei_refl, same_pei_is}
+use Rattle.pei_types.proofs.Lists.{each_weaker}
 
 map_id_of : (o : Option PeiLook) → option_map (λ p. p.id) (option_map as_issued o) ≡ option_map (λ l. l.id) o
 map_id_of None = refl
@@ -43,15 +48,11 @@ conflict_agrees m s journal g b store = sym (search_agrees m s journal g (λ p. 
 pub unfinished_agrees : (m : MachineSpec) (s : State) (journal : List Event) → Agrees m s journal → (c : CoreId) → first_unfinished s c ≡ option_map (λ p. p.id) (find (λ p. same_core p.id.core c) (unfinished_peis journal))
 unfinished_agrees m s journal g c = sym (search_agrees m s journal g (λ p. same_core p.id.core c))
 
-pub not_not : (x : Bool) → not (not x) ≡ x
-not_not true = refl
-not_not false = refl
-
 pub unentered_agrees : (m : MachineSpec) (s : State) (journal : List Event) → Agrees m s journal → (c : CoreId) → first_unentered s c ≡ option_map (λ p. p.id) (find (λ p. same_core p.id.core c && not (has_entered journal p.id)) (unfinished_peis journal))
 unentered_agrees m s journal g c =
     ap (option_map (λ l. l.id))
     (find_agree (λ l. same_core l.id.core c && is_phase l.phase phase.Issued) (λ l. same_core l.id.core c && not (has_entered journal l.id)) s.peis
-    (each_weaker (IsTracked journal) _ s.peis (λ l t. ap (λ x. same_core l.id.core c && x) (sym (ap not t.entered ∙ not_not (is_phase l.phase phase.Issued)))) g.tracked))
+    (each_weaker (IsTracked journal) _ (λ l t. ap (λ x. same_core l.id.core c && x) (sym (ap not t.entered ∙ not-not (is_phase l.phase phase.Issued)))) s.peis g.tracked))
     ∙ sym (search_agrees m s journal g (λ p. same_core p.id.core c && not (has_entered journal p.id)))
 
 -- the active PEIs are those past their issue
@@ -59,7 +60,7 @@ pub active_agrees : (m : MachineSpec) (s : State) (journal : List Event) → Agr
 active_agrees m s journal g =
     ap (filter (λ p. has_entered journal p.id)) g.unfinished
     ∙ filter-map (λ p. has_entered journal p.id) as_issued s.peis
-    ∙ ap (map as_issued) (filter_agree_each (λ l. has_entered journal l.id) is_past_issue s.peis (each_weaker (IsTracked journal) _ s.peis (λ l t. t.entered) g.tracked))
+    ∙ ap (map as_issued) (filter_agree_each (λ l. has_entered journal l.id) is_past_issue s.peis (each_weaker (IsTracked journal) _ (λ l t. t.entered) s.peis g.tracked))
 
 -- every PEI of a core has left where the state has none
 pub all_left_agrees : (m : MachineSpec) (s : State) (journal : List Event) → Agrees m s journal → (c : CoreId) → first_unfinished s c ≡ None → IsTrue (all_left journal c)
@@ -96,7 +97,7 @@ ids_distinct m s journal g i j d less within = by (get_or (issued_peis journal) 
       where
         go : (b : Bool) → same_pei p.id q.id ≡ b → same_pei p.id q.id ≡ false
         go true k =
-            let both = and_both (same_core p.id.core q.id.core) (eqb p.id.seq q.id.seq) k
+            let both = and_parts (same_core p.id.core q.id.core) (eqb p.id.seq q.id.seq) k
             in absurd (omega (arith, h both.0, eqb-true p.id.seq q.id.seq both.1))
         go false k = k
 
@@ -105,7 +106,7 @@ pub look_same : (m : MachineSpec) (s : State) (journal : List Event) → Agrees 
 look_same m s journal g k l i j same =
     let tk = look_tracked m s journal g k i
     in let tl = look_tracked m s journal g l j
-    in join k l (some_is (as_issued k) (as_issued l) (sym tk.found ∙ ap (pei_of journal) same ∙ tl.found)) (some_is k.phase l.phase (sym tk.stands ∙ ap (phase_of journal) same ∙ tl.stands))
+    in join k l (same_Some (as_issued k) (as_issued l) (sym tk.found ∙ ap (pei_of journal) same ∙ tl.found)) (same_Some k.phase l.phase (sym tk.stands ∙ ap (phase_of journal) same ∙ tl.stands))
   where
     of : Pei → Phase → PeiLook
     of p ph = record { id = p.id; lane = p.lane; op = p.op; block = p.block; operands = p.operands; phase = ph }
@@ -119,7 +120,7 @@ fence_some : (c : CoreId) (journal : List Event) (ws : List PeiId) → fence_in 
 fence_some c journal ws h = by (fence_is_on c journal) refl h
   where
     by : (b : Bool) → fence_is_on c journal ≡ b → (if b then Some (writers_awaited c journal) else None) ≡ Some ws → (fence_is_on c journal ≡ true) × (writers_awaited c journal ≡ ws)
-    by true e g = (e, some_is (writers_awaited c journal) ws g)
+    by true e g = (e, same_Some (writers_awaited c journal) ws g)
     by false e g = absurd (cc g)
 
 -- a fence that waits for none is on, and each writer issued before it began has left
@@ -167,7 +168,7 @@ look_found m s journal g id p ph found stands = by (has_left journal p.id) refl
         in let first = find_first (λ q. same_pei q.id id) s.peis x.0 x.1 (ap (λ d. same_pei d id) own ∙ same_pei_refl id)
         in let seen = find_Some (λ q. same_pei q.id id) s.peis first.0 first.1
         in let same : first.0 ≡ x.0 = look_same m s journal g first.0 x.0 seen.0 x.1 (same_pei_is first.0.id id seen.1 ∙ sym own)
-        in (x.0, first.1 ∙ ap Some same, sym x.2, some_is x.0.phase ph (sym (look_tracked m s journal g x.0 x.1).stands ∙ ap (phase_of journal) own ∙ stands))
+        in (x.0, first.1 ∙ ap Some same, sym x.2, same_Some x.0.phase ph (sym (look_tracked m s journal g x.0 x.1).stands ∙ ap (phase_of journal) own ∙ stands))
 
 -- where it stands in none, the state has it not
 pub look_lost : (m : MachineSpec) (s : State) (journal : List Event) → Agrees m s journal → (id : PeiId) → phase_of journal id ≡ None → look_of s id ≡ None

@@ -4,7 +4,7 @@ use Rattle.std.specs.List.{AllByRecursion}
 use Rattle.std.specs.Prelude.{⊤}
 use Rattle.std.proofs.lemmas.List.Kept.{AllPairs-filter}
 use Rattle.std.proofs.lemmas.List.Elements.{recursion_from_All}
-use Rattle.std.proofs.lemmas.Option.{MatchOption-at_some}
+use Rattle.std.proofs.lemmas.Option.{MatchOption-at_some, same_Some}
 use Rattle.pei_types.specs.declared.identifiers.Actor.{Actor}
 use Rattle.pei_types.specs.declared.identifiers.BlockNo.{BlockNo}
 use Rattle.pei_types.specs.declared.identifiers.PeiId.{PeiId}
@@ -28,10 +28,14 @@ use Rattle.pei_types.specs.Operation.{is_writer}
 use Rattle.history_laws.specs.Members.{In}
 use Rattle.history_laws.specs.Tracking.{as_issued, is_past_issue, issue_count, Agrees, issues_next}
 use Rattle.history_laws.specs.Entering.{InTurn, enters_rightly}
-use Rattle.history_laws.proofs.Lists.{each_of, find_Some, any_false, in_filter, in_push, in_map, and_both, or-false, some_is, eqb_sym}
-use Rattle.history_laws.proofs.Agree.{same_pei_is, same_core_is, same_pei_refl, moved, Moves, new_look}
+use Rattle.history_laws.proofs.Lists.{each_of, find_Some, any_false, in_filter, in_push, in_map}
+use Rattle.history_laws.proofs.Agree.{moved, Moves, new_look}
 use Rattle.history_laws.proofs.Steps.{moves_place_host, moves_place_memory, moves_read, moves_seal, moves_act, keeps_placing, keeps_reading, keeps_acting, keeps_invalidating, keeps_downgrading}
 use Rattle.history_laws.proofs.Derived.{look_tracked, look_below, look_same}
+use Rattle.std.proofs.lemmas.Bool.{not-true, and_parts}
+use Rattle.std.proofs.Math.Bool.{or_comm, or-false}
+use Rattle.pei_types.proofs.Identities.{same_pei_refl, same_pei_is, same_core_is}
+use Rattle.pei_types.proofs.Tests.{eqb_sym}
 
 -- ---- PEIs of one core have rising numbers
 
@@ -75,7 +79,7 @@ find_least test (l ∷ ls) p q r f i t c h = by (test l) refl f i (find_least te
         crossed after e = omega (arith, after, e, h)
 
     by : (b : Bool) → test l ≡ b → cond b (Some l) (find test ls) ≡ Some q → (p ≡ l) ⊎ In p ls → (find test ls ≡ Some q → In p ls → test p ≡ true → same_core p.id.core q.id.core ≡ true → p.id.seq < q.id.seq → ⊥) → ⊥
-    by true e g j rest = from_head (some_is l q g) j
+    by true e g j rest = from_head (same_Some l q g) j
     by false e g (inl same) rest = absurd (cc (sym t ∙ ap test same ∙ e))
     by false e g (inr j) rest = rest g j t c h
 
@@ -160,11 +164,7 @@ is_pei_some (Some p) id h = ap Some (same_pei_is p id h)
 
 mapped_some : (o : Option PeiLook) (id : PeiId) → option_map (λ l. l.id) o ≡ Some id → (l : PeiLook) × (o ≡ Some l) × (l.id ≡ id)
 mapped_some None id h = absurd (cc h)
-mapped_some (Some l) id h = (l, refl, some_is l.id id h)
-
-not_is_true : (x : Bool) → not x ≡ true → x ≡ false
-not_is_true true h = absurd (cc h)
-not_is_true false h = refl
+mapped_some (Some l) id h = (l, refl, same_Some l.id id h)
 
 pub may_enter : (m : MachineSpec) (s : State) (journal : List Event) (a : Actor) (seq : ℕ) → Agrees m s journal → IsTrue (pei_guard m s (event.Enter seq) (look_of s (pei_id a seq))) → MayEnter m s (pei_id a seq)
 may_enter m s journal a seq g h = by (look_of s (pei_id a seq)) refl h
@@ -172,7 +172,7 @@ may_enter m s journal a seq g h = by (look_of s (pei_id a seq)) refl h
     by : (o : Option PeiLook) → look_of s (pei_id a seq) ≡ o → IsTrue (pei_guard m s (event.Enter seq) o) → MayEnter m s (pei_id a seq)
     by None e k = absurd (cc k)
     by (Some p) e k =
-        let both = and_both (is_pei (first_unentered s p.id.core) p.id) (not (entry_is_taken m s p)) k
+        let both = and_parts (is_pei (first_unentered s p.id.core) p.id) (not (entry_is_taken m s p)) k
         in let seen = find_Some (λ q. same_pei q.id (pei_id a seq)) s.peis p e
         in let named : p.id ≡ pei_id a seq = same_pei_is p.id (pei_id a seq) seen.1
         in let first = mapped_some (find (λ q. same_core q.id.core p.id.core && is_phase q.phase phase.Issued) s.peis) p.id (is_pei_some (first_unentered s p.id.core) p.id both.0)
@@ -183,14 +183,8 @@ may_enter m s journal a seq g h = by (look_of s (pei_id a seq)) refl h
           here = seen.0;
           named = named;
           first = subst (λ d. find (λ q. same_core q.id.core d.core && is_phase q.phase phase.Issued) s.peis ≡ Some p) named (first.1 ∙ ap Some same);
-          free = not_is_true (entry_is_taken m s p) both.1;
+          free = not-true (entry_is_taken m s p) both.1;
         }
-
-or_comm : (x y : Bool) → (x || y) ≡ (y || x)
-or_comm true true = refl
-or_comm true false = refl
-or_comm false true = refl
-or_comm false false = refl
 
 pub conflicts_sym : (m : MachineSpec) (b : BlockNo) (o : Op) (c : BlockNo) (q : Op) → conflicts m b o c q ≡ conflicts m c q b o
 conflicts_sym m b o c q = ap₂ (λ x y. x && y) (eqb_sym (entry_of m b) (entry_of m c)) (or_comm (is_writer o) (is_writer q))

@@ -19,10 +19,13 @@ use Rattle.pei_types.specs.Operation.{is_writer}
 use Rattle.history_laws.specs.Members.{In}
 use Rattle.history_laws.specs.Tracking.{issued_by, fence_is_on, writers_awaited, Agrees}
 use Rattle.history_laws.specs.Fences.{Settles, fences_rightly}
-use Rattle.history_laws.proofs.Lists.{any_push, or_parts_cases, and_both, in_filter, filter_in, or-false}
-use Rattle.history_laws.proofs.Grows.{and-false, issued_kept, issued_more, fence_is_on-push, before_fence_kept, before_fence_here}
-use Rattle.history_laws.proofs.Agree.{same_core_is, left_stays}
+use Rattle.history_laws.proofs.Lists.{any_push, or_parts_cases, in_filter, filter_in}
+use Rattle.history_laws.proofs.Grows.{issued_kept, issued_more, fence_is_on-push, before_fence_kept, before_fence_here}
+use Rattle.history_laws.proofs.Agree.{left_stays}
 use Rattle.history_laws.proofs.Derived.{fence_done}
+use Rattle.std.proofs.Math.Bool.{or-false, and-false}
+use Rattle.std.proofs.lemmas.Bool.{and_parts}
+use Rattle.pei_types.proofs.Identities.{same_core_is}
 
 -- ---- a part of a journal ends where the journal does
 
@@ -47,12 +50,9 @@ behind_ends journal front rest e x same = by (ends_in rest)
 
 -- ---- one more event
 
-or_true : (x y : Bool) → x ≡ true → (x || y) ≡ true
-or_true x y h = rw h refl
-
 -- a fence that is on after an event that begins none was on before
 pub on_before : (c : CoreId) (journal : List Event) (e : Event) → begins_fence c e ≡ false → fence_is_on c (journal ++ e ∷ []) ≡ true → fence_is_on c journal ≡ true
-on_before c journal e begins h = (and_both (fence_is_on c journal) (not (ends_fence c e)) (subst (λ b. (b || fence_is_on c journal && not (ends_fence c e)) ≡ true) begins (sym (fence_is_on-push c journal e) ∙ h))).0
+on_before c journal e begins h = (and_parts (fence_is_on c journal) (not (ends_fence c e)) (subst (λ b. (b || fence_is_on c journal && not (ends_fence c e)) ≡ true) begins (sym (fence_is_on-push c journal e) ∙ h))).0
 
 -- What has settled stays so after an event that ends no fence.
 settled_kept : (journal : List Event) (x : Event) → ((c : CoreId) → ends_fence c x ≡ false) → Settles journal → (c : CoreId) (front rest : List Event) (e : Event) (p : Pei) → journal ++ x ∷ [] ≡ front ++ e ∷ rest → pei_issued_by e.actor e.kind ≡ Some p → same_core p.id.core c ≡ true → is_writer p.op ≡ true → list_any (ends_fence c) rest ≡ true → has_left (journal ++ x ∷ []) p.id ≡ true
@@ -128,7 +128,7 @@ settles_end m s journal a waits g st =
             go : (list_any (ends_fence c) r.0 ≡ true) ⊎ (ends_fence c x ≡ true) → has_left journal p.id ≡ true
             go (inl h) = st.settled c front r.0 e p r.2 issue own writes h
             go (inr h) =
-                let core : a.core ≡ c = same_core_is a.core c (and_both (same_core a.core c) true h).0
+                let core : a.core ≡ c = same_core_is a.core c (and_parts (same_core a.core c) true h).0
                 in left p (subst (λ ys. In p (issued_peis ys)) (sym r.2) (split front r.0 e p issue)) (subst (λ d. same_core p.id.core d ≡ true) (sym core) own) writes
 
 -- a PEI is issued while no fence of its core is on

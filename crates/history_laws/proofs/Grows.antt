@@ -1,5 +1,5 @@
 -- What one more event does to each look-up in a list of events.
-use Rattle.std.proofs.Common.{◌≡◌, ℕ, suc, ◌+◌, ◌-◌, ◌≤◌, Bool, true, false, not, ◌&&◌, ◌||◌, cond, if◌then◌else◌, List, [], ◌∷◌, ◌++◌, map, length, take, reverse, filter, find, Some, None, refl, sym, ◌∙◌, ap, ap₂, arith}
+use Rattle.std.proofs.Common.{◌≡◌, ℕ, ◌+◌, ◌-◌, Bool, true, false, not, ◌&&◌, ◌||◌, if◌then◌else◌, List, [], ◌∷◌, ◌++◌, map, length, take, reverse, filter, find, Some, None, refl, sym, ◌∙◌, ap, ap₂, arith}
 use Rattle.std.specs.List.{list_any, before_last, prefix_len, cons_option}
 use Rattle.std.proofs.lemmas.List.{take-append-le, reverse-append, length-append, append-nil}
 use Rattle.std.proofs.lemmas.List.Sums.{fold-append}
@@ -15,11 +15,9 @@ use Rattle.pei_types.specs.History.{Pei, issued_peis, pei_issued_by, pei_of, pha
 use Rattle.pei_types.specs.Operation.{is_writer}
 use Rattle.pei_types.proofs.Pushes.{issued_peis-push, phase_of-push}
 use Rattle.history_laws.specs.Tracking.{fence_is_on, fence_in}
-use Rattle.history_laws.proofs.Lists.{or-false, any_push, filter-filter}
-
-pub and-false : (x : Bool) → (x && false) ≡ false
-and-false true = refl
-and-false false = refl
+use Rattle.history_laws.proofs.Lists.{any_push, filter-filter}
+use Rattle.pei_types.proofs.Tests.{not-or}
+use Rattle.std.proofs.Math.Bool.{or-false}
 
 pub and-true : (x : Bool) → (x && true) ≡ x
 and-true true = refl
@@ -95,13 +93,9 @@ issued_more events e p h = issued_peis-push events e ∙ ap (λ o. issued_peis e
 pub left_none : (events : List Event) (e : Event) (ps : List Pei) → ((id : PeiId) → leaves id e ≡ false) → filter (λ p. not (has_left (events ++ e ∷ []) p.id)) ps ≡ filter (λ p. not (has_left events p.id)) ps
 left_none events e ps h = filter_agree _ _ (λ p. ap not (left_kept events e p.id (h p.id))) ps
 
-not_or : (x y : Bool) → not (x || y) ≡ (not x && not y)
-not_or true y = refl
-not_or false y = refl
-
 pub left_more : (events : List Event) (e : Event) (ps : List Pei) → filter (λ p. not (has_left (events ++ e ∷ []) p.id)) ps ≡ filter (λ p. not (leaves p.id e)) (filter (λ p. not (has_left events p.id)) ps)
 left_more events e ps =
-    filter_agree (λ p. not (has_left (events ++ e ∷ []) p.id)) (λ p. not (has_left events p.id) && not (leaves p.id e)) (λ p. ap not (has_left-push events e p.id) ∙ not_or (has_left events p.id) (leaves p.id e)) ps
+    filter_agree (λ p. not (has_left (events ++ e ∷ []) p.id)) (λ p. not (has_left events p.id) && not (leaves p.id e)) (λ p. ap not (has_left-push events e p.id) ∙ not-or (has_left events p.id) (leaves p.id e)) ps
     ∙ sym (filter-filter (λ p. not (leaves p.id e)) (λ p. not (has_left events p.id)) ps)
 
 pub unfinished_kept : (events : List Event) (e : Event) → pei_issued_by e.actor e.kind ≡ None → ((id : PeiId) → leaves id e ≡ false) → unfinished_peis (events ++ e ∷ []) ≡ unfinished_peis events
@@ -111,14 +105,6 @@ pub unfinished_left : (events : List Event) (e : Event) → pei_issued_by e.acto
 unfinished_left events e i = ap (filter (λ p. not (has_left (events ++ e ∷ []) p.id))) (issued_kept events e i) ∙ left_more events e (issued_peis events)
 
 -- ---- fences
-
-prefix_len-le : (p : Event → Bool) (xs : List Event) → prefix_len p xs ≤ length xs
-prefix_len-le p [] = omega arith
-prefix_len-le p (x ∷ xs) = by (p x) (prefix_len-le p xs)
-  where
-    by : (b : Bool) → prefix_len p xs ≤ length xs → cond b (1 + prefix_len p xs) 0 ≤ suc (length xs)
-    by true h = omega (arith, h)
-    by false h = omega arith
 
 before_last_other : (p : Event → Bool) (xs : List Event) (x : Event) → p x ≡ false → before_last p (xs ++ x ∷ []) ≡ before_last p xs
 before_last_other p xs x h =

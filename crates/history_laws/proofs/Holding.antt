@@ -21,9 +21,13 @@ use Rattle.pei_types.specs.Schedule.{LaneClaim, Free, Held, Spent, Announced, af
 use Rattle.history_laws.specs.Members.{In}
 use Rattle.history_laws.specs.Tracking.{is_past_issue}
 use Rattle.history_laws.specs.Holding.{claim_at, holds_entry, same_mode, one, counted, Holding}
-use Rattle.history_laws.proofs.Lists.{get_or-change_at_same, get_or-change_at_other, length-change_at, find_filter, find_Some, find_None, find-map, find_agree, each_in, in_map, in_filter, in_push, and_both, eqb_sym}
-use Rattle.history_laws.proofs.Agree.{same_pei_is, same_pei_refl, not_true, moved}
+use Rattle.history_laws.proofs.Lists.{get_or-change_at_same, get_or-change_at_other, find_filter, find_Some, find_None, find-map, find_agree, each_in, in_map, in_filter, in_push}
+use Rattle.history_laws.proofs.Agree.{moved}
 use Rattle.history_laws.proofs.Counting.{changed, claim_here, claim_other, length-changed, count_change, count_some, entry_below}
+use Rattle.std.proofs.lemmas.Bool.{not-true, and_parts}
+use Rattle.pei_types.proofs.Lists.{length-change_at}
+use Rattle.pei_types.proofs.Identities.{same_pei_refl, same_pei_is}
+use Rattle.pei_types.proofs.Tests.{eqb_sym}
 
 -- ---- places
 
@@ -56,7 +60,7 @@ record Within (m : MachineSpec) (a : Actor) (claims : List (List LaneClaim)) : T
 
 within : (m : MachineSpec) (s : State) (entries : List Claims) (claims : List (List LaneClaim)) (a : Actor) → IsTrue (is_actor_of m a) → Holding m s entries claims → Within m a claims
 within m s entries claims a actor h =
-    let both = and_both (nat_lt a.core.0 m.cores) (nat_le a.lane.0 m.buffer) actor
+    let both = and_parts (nat_lt a.core.0 m.cores) (nat_le a.lane.0 m.buffer) actor
     in let c : a.core.0 < m.cores = ltb-true a.core.0 m.cores both.0
     in record { core = subst (λ n. a.core.0 < n) (sym h.cores) c; lane = subst (λ n. a.lane.0 < n) (sym (h.lanes a.core.0 c)) (above (leb-true a.lane.0 m.buffer both.1)) }
   where
@@ -191,12 +195,12 @@ counted_with mode.Writer mode.Reader c = add_none c.writers
     add_none n = omega arith
 
 granted_writers : (c : Claims) (how : Mode) → is_granted c how ≡ true → c.writers ≡ 0
-granted_writers c mode.Reader h = eqb-true c.writers 0 (and_both (eqb c.writers 0) (eqb c.waiting 0) h).0
-granted_writers c mode.Writer h = eqb-true c.writers 0 (and_both (eqb c.readers 0) (eqb c.writers 0) h).1
+granted_writers c mode.Reader h = eqb-true c.writers 0 (and_parts (eqb c.writers 0) (eqb c.waiting 0) h).0
+granted_writers c mode.Writer h = eqb-true c.writers 0 (and_parts (eqb c.readers 0) (eqb c.writers 0) h).1
 
 granted_all : (c : Claims) (k : Mode) → is_granted c mode.Writer ≡ true → counted k c ≡ 0
-granted_all c mode.Reader h = eqb-true c.readers 0 (and_both (eqb c.readers 0) (eqb c.writers 0) h).0
-granted_all c mode.Writer h = eqb-true c.writers 0 (and_both (eqb c.readers 0) (eqb c.writers 0) h).1
+granted_all c mode.Reader h = eqb-true c.readers 0 (and_parts (eqb c.readers 0) (eqb c.writers 0) h).0
+granted_all c mode.Writer h = eqb-true c.writers 0 (and_parts (eqb c.readers 0) (eqb c.writers 0) h).1
 
 -- a claim is granted
 pub holding_granted : (m : MachineSpec) (s : State) (entries : List Claims) (claims : List (List LaneClaim)) (a : Actor) (p : PeiLook) → IsTrue (is_actor_of m a) → look_in s a.core a.lane ≡ Some p → free_like (claim_at claims a.core.0 a.lane.0) ≡ true → is_granted (get_or entries (entry_of m p.block) no_claims) (mode_of p.op) ≡ true → Holding m s entries claims → Holding m s (change_at entries (entry_of m p.block) (λ c. with_claim c (mode_of p.op))) (changed claims a.core.0 a.lane.0 (λ _. Held (entry_of m p.block) (mode_of p.op)))
@@ -246,10 +250,10 @@ holding_granted m s entries claims a p actor here free granted h =
         add_none n = omega arith
 
     entry : (e : ℕ) (k : Mode) → (eqb at e && same_mode how k) ≡ true → at ≡ e
-    entry e k q = eqb-true at e (and_both (eqb at e) (same_mode how k) q).0
+    entry e k q = eqb-true at e (and_parts (eqb at e) (same_mode how k) q).0
 
     first : (e : ℕ) → (eqb at e && same_mode how mode.Writer) ≡ true → (at ≡ e) × (how ≡ mode.Writer)
-    first e q = let both = and_both (eqb at e) (same_mode how mode.Writer) q in (eqb-true at e both.0, writer how both.1)
+    first e q = let both = and_parts (eqb at e) (same_mode how mode.Writer) q in (eqb-true at e both.0, writer how both.1)
       where
         writer : (k : Mode) → same_mode k mode.Writer ≡ true → k ≡ mode.Writer
         writer mode.Writer u = refl
@@ -479,7 +483,7 @@ holding_left m s t entries claims a seq l actor same i named lane past unique h 
         by (inr p) = ap (holds_entry e k) (other d n p)
 
     stays : (p : PeiLook) → In p t.peis → In p s.peis × (same_pei p.id (pei_id a seq) ≡ false)
-    stays p u = let r = in_filter (λ q. not (same_pei q.id (pei_id a seq))) s.peis p (subst (In p) same u) in (r.0, not_true (same_pei p.id (pei_id a seq)) r.1)
+    stays p u = let r = in_filter (λ q. not (same_pei q.id (pei_id a seq))) s.peis p (subst (In p) same u) in (r.0, not-true (same_pei p.id (pei_id a seq)) r.1)
 
     -- a PEI in the actor's lane is the one that leaves
     own : (p : PeiLook) → In p s.peis → (a.core.0 ≡ p.id.core.0) × (a.lane.0 ≡ p.lane.0) → p ≡ l
@@ -506,7 +510,7 @@ holding_left m s t entries claims a seq l actor same i named lane past unique h 
         by (inr p) =
             let r = h.held b e k (sym (other b.core.0 b.lane.0 p) ∙ g)
             in let seen = find_Some (λ z. same_core z.id.core b.core && same_lane z.lane b.lane) s.peis r.0 r.1
-            in let both = and_both (same_core r.0.id.core b.core) (same_lane r.0.lane b.lane) seen.1
+            in let both = and_parts (same_core r.0.id.core b.core) (same_lane r.0.lane b.lane) seen.1
             in (r.0, ap (find (λ z. same_core z.id.core b.core && same_lane z.lane b.lane)) same ∙ find_filter (λ z. same_core z.id.core b.core && same_lane z.lane b.lane) (λ z. not (same_pei z.id (pei_id a seq))) s.peis r.0 r.1 (ap not (elsewhere r.0 seen.0 both.0 both.1 (same_pei r.0.id (pei_id a seq)) refl)), r.2, r.3)
           where
             elsewhere : (z : PeiLook) → In z s.peis → same_core z.id.core b.core ≡ true → same_lane z.lane b.lane ≡ true → (v : Bool) → same_pei z.id (pei_id a seq) ≡ v → same_pei z.id (pei_id a seq) ≡ false

@@ -10,10 +10,11 @@ use Rattle.pei_types.specs.Blocks.{same_core}
 use Rattle.pei_types.specs.History.{Pei, issued_peis, pei_issued_by, before_issue}
 use Rattle.std.proofs.lemmas.List.Elements.{filter_map-append}
 use Rattle.history_laws.specs.Members.{In}
-use Rattle.history_laws.proofs.Agree.{same_pei_is, same_pei_refl}
 use Rattle.history_laws.proofs.Entering.{rising}
-use Rattle.history_laws.proofs.Lists.{each_of, or_right_true}
+use Rattle.history_laws.proofs.Lists.{each_of}
 use mathlib.Core.Path.{fun_ext}
+use Rattle.std.proofs.lemmas.Bool.{or_right}
+use Rattle.pei_types.proofs.Identities.{same_pei_refl, same_pei_is}
 
 -- whether an event issues this PEI
 abbrev pub issues_kind : PeiId → Actor → EventKind → Bool
@@ -57,7 +58,7 @@ issued_somewhere (e ∷ events) p i = by (issues_step e.actor e.kind (issued_pei
   where
     by : (issues_kind p.id e.actor e.kind ≡ true) ⊎ In p (issued_peis events) → (In p (issued_peis events) → list_any (issues_pei p.id) events ≡ true) → (issues_pei p.id e || list_any (issues_pei p.id) events) ≡ true
     by (inl h) rest = rw h refl
-    by (inr j) rest = or_right_true (issues_pei p.id e) (list_any (issues_pei p.id) events) (rest j)
+    by (inr j) rest = or_right (issues_pei p.id e) (list_any (issues_pei p.id) events) (rest j)
 
 issues_it : (id : PeiId) (a : Actor) (kind : EventKind) → issues_kind id a kind ≡ true → (q : Pei) × (pei_issued_by a kind ≡ Some q) × (q.id ≡ id)
 issues_it id a (event.Issue seq lane o b operands) h = (record { id = record { core = a.core; seq = seq }; lane = lane; op = o; block = b; operands = operands }, refl, same_pei_is (record { core = a.core; seq = seq }) id h)

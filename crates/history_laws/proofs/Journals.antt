@@ -20,8 +20,7 @@ use Rattle.pei_types.specs.FlatMemory.{flat_block}
 use Rattle.pei_types.specs.Monitor.{placement}
 use Rattle.pei_types.specs.Next.{Makes, lane_row, pei_row}
 use Rattle.pei_types.specs.Recency.{list_at}
-use Rattle.history_laws.proofs.Lists.{find_first, find_Some, some_is}
-use Rattle.history_laws.proofs.Agree.{same_pei_is, same_pei_refl}
+use Rattle.history_laws.proofs.Lists.{find_first, find_Some}
 use Rattle.history_laws.proofs.Derived.{look_same}
 use Rattle.history_laws.proofs.Clauses.{IsOf, of_lane}
 use Rattle.pei_types.specs.Guard.{guard}
@@ -36,8 +35,10 @@ use Rattle.history_laws.specs.Fits.{Fits, AsksForFence, EntersFree}
 use Rattle.history_laws.specs.Sound.{GoesByRow, MeetsState, Sound, SoundRun, IsSoundEvent, IssuesUnfenced}
 use Rattle.history_laws.proofs.Steps.{guard_numbers}
 use Rattle.history_laws.proofs.Programs.{asks_next}
-use Rattle.history_laws.proofs.Plain.{makes_is, sound_at_start, sound_next, sound_meets, fits_sound}
+use Rattle.history_laws.proofs.Plain.{sound_at_start, sound_next, sound_meets, fits_sound}
 use Rattle.history_laws.proofs.Rows.{fits_next}
+use Rattle.std.proofs.lemmas.Option.{same_Some}
+use Rattle.pei_types.proofs.Identities.{same_pei_refl, same_pei_is, makes_is}
 
 guard_enters : (m : MachineSpec) (s : State) (a : Actor) (kind : EventKind) → IsTrue (guard m s a kind) → IsTrue (enters_rightly m s a kind)
 guard_enters m s a (event.Enter seq) h = h
@@ -157,7 +158,7 @@ next_places x m image journal a (event.Place seq w) d actor h = rw look (ap (pla
       where
         no_lane : 0 < a.lane.0 → ⊥
         no_lane u = omega (arith, u, e)
-    row_of (suc n) e k = some_is (lane_row m s (flat_block image journal) false (look_in s a.core a.lane)) (Makes (event.Place seq w)) k
+    row_of (suc n) e k = same_Some (lane_row m s (flat_block image journal) false (look_in s a.core a.lane)) (Makes (event.Place seq w)) k
 
     placed : event.Place seq w ≡ event.Place l.id.seq (placement m.placement (tag_of m l.block) (list_at s.monitor (llc_set_of m l.block)))
     placed =

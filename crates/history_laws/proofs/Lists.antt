@@ -1,17 +1,12 @@
 -- Facts on lists: tests, filters and searches.
-use Rattle.std.proofs.Common.{◌≡◌, ◌⊎◌, inl, inr, ℕ, suc, ◌<◌, Bool, true, false, ◌&&◌, ◌||◌, cond, List, [], ◌∷◌, ◌++◌, map, length, filter, find, Option, Some, None, option_map, get_or, zero, eqb, eqb-true, eq-eqb, ne_eqb, refl, sym, ◌∙◌, ap, subst, arith}
+use Rattle.std.proofs.Common.{◌≡◌, ◌⊎◌, inl, inr, ℕ, suc, ◌<◌, Bool, true, false, ◌&&◌, ◌||◌, cond, List, [], ◌∷◌, ◌++◌, map, length, filter, find, Option, Some, None, option_map, get_or, zero, refl, sym, ◌∙◌, ap, subst, arith}
 use Rattle.std.specs.List.{list_any, list_all, AllByRecursion}
 use Rattle.std.proofs.lemmas.List.Folds.{list_any-append}
 use Rattle.history_laws.specs.Members.{In}
 use Rattle.pei_types.specs.Recency.{change_at}
-
-pub or-false : (x : Bool) → (x || false) ≡ x
-or-false true = refl
-or-false false = refl
-
-pub or_assoc : (x y z : Bool) → (x || (y || z)) ≡ ((x || y) || z)
-or_assoc true y z = refl
-or_assoc false y z = refl
+use Rattle.std.proofs.Math.Bool.{or-false}
+use Rattle.pei_types.proofs.Lists.{each_both, each_fails, each_filter, each_passing, each_weaker, found_has, found_passes, none_pass, true_all}
+use Rattle.std.proofs.lemmas.Option.{same_Some}
 
 pub any_push : {A : Type 0} (p : A → Bool) (xs : List A) (x : A) → list_any p (xs ++ x ∷ []) ≡ (list_any p xs || p x)
 any_push p xs x = list_any-append p xs (x ∷ []) ∙ ap (λ y. list_any p xs || y) (or-false (p x))
@@ -25,26 +20,10 @@ pub each_in : {A : Type 0} (P : A → Type 0) (xs : List A) → ((x : A) → In 
 each_in P [] h = tt
 each_in P (y ∷ ys) h = (h y (inl refl), each_in P ys (λ x i. h x (inr i)))
 
-pub each_map : {A B : Type 0} (P : A → Type 0) (Q : B → Type 0) (f : A → B) (xs : List A) → ((x : A) → P x → Q (f x)) → AllByRecursion P xs → AllByRecursion Q (map f xs)
-each_map P Q f [] step h = tt
-each_map P Q f (x ∷ xs) step h = (step x h.0, each_map P Q f xs step h.1)
-
-pub each_weaker : {A : Type 0} (P Q : A → Type 0) (xs : List A) → ((x : A) → P x → Q x) → AllByRecursion P xs → AllByRecursion Q xs
-each_weaker P Q [] step h = tt
-each_weaker P Q (x ∷ xs) step h = (step x h.0, each_weaker P Q xs step h.1)
-
-pub each_push : {A : Type 0} (P : A → Type 0) (xs : List A) (x : A) → AllByRecursion P xs → P x → AllByRecursion P (xs ++ x ∷ [])
-each_push P [] x h p = (p, tt)
-each_push P (y ∷ ys) x h p = (h.0, each_push P ys x h.1 p)
-
 -- what passes a filter passed its test
-pub each_filter : {A : Type 0} (P Q : A → Type 0) (t : A → Bool) (xs : List A) → ((x : A) → t x ≡ true → P x → Q x) → AllByRecursion P xs → AllByRecursion Q (filter t xs)
-each_filter P Q t [] step h = tt
-each_filter {A} P Q t (x ∷ xs) step h = by (t x) refl (each_filter P Q t xs step h.1)
-  where
-    by : (b : Bool) → t x ≡ b → AllByRecursion Q (filter t xs) → AllByRecursion Q (cond b (x ∷ filter t xs) (filter t xs))
-    by true e rest = (step x e h.0, rest)
-    by false e rest = rest
+pub each_kept : {A : Type 0} (P Q : A → Type 0) (t : A → Bool) (xs : List A) → ((x : A) → t x ≡ true → P x → Q x) → AllByRecursion P xs → AllByRecursion Q (filter t xs)
+each_kept P Q t xs step h =
+    each_weaker (λ x. (t x ≡ true) × P x) Q (λ x k. step x k.0 k.1) (filter t xs) (each_both (λ x. t x ≡ true) P (filter t xs) (each_passing t xs) (each_filter P t xs h))
 
 pub in_push : {A : Type 0} (xs : List A) (x y : A) → In y (xs ++ x ∷ []) → In y xs ⊎ (y ≡ x)
 in_push [] x y (inl e) = inr e
@@ -55,15 +34,6 @@ in_push {A} (z ∷ zs) x y (inr i) = by (in_push zs x y i)
     by : In y zs ⊎ (y ≡ x) → In y (z ∷ zs) ⊎ (y ≡ x)
     by (inl j) = inl (inr j)
     by (inr e) = inr e
-
-pub in_push_left : {A : Type 0} (xs : List A) (x y : A) → In y xs → In y (xs ++ x ∷ [])
-in_push_left [] x y i = absurd i
-in_push_left (z ∷ zs) x y (inl e) = inl e
-in_push_left (z ∷ zs) x y (inr i) = inr (in_push_left zs x y i)
-
-pub in_push_right : {A : Type 0} (xs : List A) (x : A) → In x (xs ++ x ∷ [])
-in_push_right [] x = inl refl
-in_push_right (z ∷ zs) x = inr (in_push_right zs x)
 
 pub in_map : {A B : Type 0} (f : A → B) (xs : List A) (y : B) → In y (map f xs) → (x : A) × In x xs × (y ≡ f x)
 in_map f [] y i = absurd i
@@ -109,10 +79,6 @@ pub filter_agree_each : {A : Type 0} (p q : A → Bool) (xs : List A) → AllByR
 filter_agree_each p q [] h = refl
 filter_agree_each p q (x ∷ xs) h = rw (h.0, filter_agree_each p q xs h.1) refl
 
-pub any_agree : {A : Type 0} (p q : A → Bool) (xs : List A) → AllByRecursion (λ x. p x ≡ q x) xs → list_any p xs ≡ list_any q xs
-any_agree p q [] h = refl
-any_agree p q (x ∷ xs) h = rw (h.0, any_agree p q xs h.1) refl
-
 pub filter-map : {A B : Type 0} (p : B → Bool) (f : A → B) (xs : List A) → filter p (map f xs) ≡ map f (filter (λ x. p (f x)) xs)
 filter-map p f [] = refl
 filter-map {A} {B} p f (x ∷ xs) = by (p (f x)) (filter-map p f xs)
@@ -135,24 +101,10 @@ map-map g f [] = refl
 map-map g f (x ∷ xs) = ap (λ ys. g (f x) ∷ ys) (map-map g f xs)
 
 pub find_Some : {A : Type 0} (p : A → Bool) (xs : List A) (x : A) → find p xs ≡ Some x → In x xs × (p x ≡ true)
-find_Some p [] x h = absurd (cc h)
-find_Some {A} p (y ∷ xs) x h = by (p y) refl h (find_Some p xs x)
-  where
-    some_same : (a b : A) → Some a ≡ Some b → a ≡ b
-    some_same a b e = search
-
-    by : (b : Bool) → p y ≡ b → cond b (Some y) (find p xs) ≡ Some x → (find p xs ≡ Some x → In x xs × (p x ≡ true)) → In x (y ∷ xs) × (p x ≡ true)
-    by true e g rest = (inl (sym (some_same y x g)), ap p (sym (some_same y x g)) ∙ e)
-    by false e g rest = (inr (rest g).0, (rest g).1)
+find_Some p xs x h = (found_has (λ y. In y xs) p xs x (each_in (λ y. In y xs) xs (λ y i. i)) h, found_passes p xs x h)
 
 pub find_None : {A : Type 0} (p : A → Bool) (xs : List A) (x : A) → find p xs ≡ None → In x xs → p x ≡ false
-find_None p [] x h i = absurd i
-find_None {A} p (y ∷ xs) x h i = by (p y) refl h i (find_None p xs x)
-  where
-    by : (b : Bool) → p y ≡ b → cond b (Some y) (find p xs) ≡ None → (x ≡ y) ⊎ In x xs → (find p xs ≡ None → In x xs → p x ≡ false) → p x ≡ false
-    by true e g j rest = absurd (cc g)
-    by false e g (inl same) rest = ap p same ∙ e
-    by false e g (inr j) rest = rest g j
+find_None p xs x h i = each_of (λ y. p y ≡ false) xs x (none_pass p xs h) i
 
 pub find_first : {A : Type 0} (p : A → Bool) (xs : List A) (x : A) → In x xs → p x ≡ true → (y : A) × (find p xs ≡ Some y)
 find_first {A} p xs x i t = by (find p xs) refl
@@ -162,35 +114,10 @@ find_first {A} p xs x i t = by (find p xs) refl
     by (Some y) e = (y, e)
 
 pub any_false : {A : Type 0} (p : A → Bool) (xs : List A) (x : A) → list_any p xs ≡ false → In x xs → p x ≡ false
-any_false p [] x h i = absurd i
-any_false {A} p (y ∷ xs) x h i = by (p y) refl h i (any_false p xs x)
-  where
-    by : (b : Bool) → p y ≡ b → (b || list_any p xs) ≡ false → (x ≡ y) ⊎ In x xs → (list_any p xs ≡ false → In x xs → p x ≡ false) → p x ≡ false
-    by true e g j rest = absurd (cc g)
-    by false e g (inl same) rest = ap p same ∙ e
-    by false e g (inr j) rest = rest g j
-
-pub any_true : {A : Type 0} (p : A → Bool) (xs : List A) (x : A) → In x xs → p x ≡ true → list_any p xs ≡ true
-any_true {A} p xs x i t = by (list_any p xs) refl
-  where
-    by : (b : Bool) → list_any p xs ≡ b → list_any p xs ≡ true
-    by true e = e
-    by false e = absurd (cc (sym t ∙ any_false p xs x e i))
+any_false p xs x h i = each_of (λ y. p y ≡ false) xs x (each_fails p xs h) i
 
 pub all_in : {A : Type 0} (p : A → Bool) (xs : List A) → ((x : A) → In x xs → p x ≡ true) → list_all p xs ≡ true
-all_in p [] h = refl
-all_in p (x ∷ xs) h = rw (h x (inl refl)) (all_in p xs (λ y i. h y (inr i)))
-
--- a test that follows from another holds of a list where the other does
-pub any_weaker : {A : Type 0} (p q : A → Bool) (xs : List A) → ((x : A) → p x ≡ true → q x ≡ true) → list_any q xs ≡ false → list_any p xs ≡ false
-any_weaker p q [] step h = refl
-any_weaker {A} p q (x ∷ xs) step h = by (p x) (q x) refl refl h (any_weaker p q xs step)
-  where
-    by : (b c : Bool) → p x ≡ b → q x ≡ c → (c || list_any q xs) ≡ false → (list_any q xs ≡ false → list_any p xs ≡ false) → (b || list_any p xs) ≡ false
-    by true true e f g rest = absurd (cc g)
-    by true false e f g rest = absurd (cc (sym f ∙ step x e))
-    by false true e f g rest = absurd (cc g)
-    by false false e f g rest = rest g
+all_in p xs h = true_all p xs (each_in (λ x. p x ≡ true) xs h)
 
 pub any_none : {A : Type 0} (p q : A → Bool) (xs : List A) → ((x : A) → q x ≡ false → p x ≡ false) → list_any q xs ≡ false → list_any p xs ≡ false
 any_none p q [] step h = refl
@@ -210,11 +137,6 @@ get_or-map_default f [] i d = refl
 get_or-map_default f (x ∷ xs) zero d = refl
 get_or-map_default f (x ∷ xs) (suc i) d = get_or-map_default f xs i d
 
-pub length-change_at : {A : Type 0} (xs : List A) (i : ℕ) (f : A → A) → length (change_at xs i f) ≡ length xs
-length-change_at [] i f = refl
-length-change_at (x ∷ xs) zero f = refl
-length-change_at (x ∷ xs) (suc i) f = ap suc (length-change_at xs i f)
-
 pub get_or-change_at_same : {A : Type 0} (xs : List A) (i : ℕ) (f : A → A) (d : A) → i < length xs → get_or (change_at xs i f) i d ≡ f (get_or xs i d)
 get_or-change_at_same [] i f d h = absurd (omega (arith, h))
 get_or-change_at_same (x ∷ xs) zero f d h = refl
@@ -227,37 +149,9 @@ get_or-change_at_other (x ∷ xs) zero (suc j) f d h = refl
 get_or-change_at_other (x ∷ xs) (suc i) zero f d h = refl
 get_or-change_at_other (x ∷ xs) (suc i) (suc j) f d h = get_or-change_at_other xs i j f d (λ e. h (ap suc e))
 
-pub eqb_sym : (a b : ℕ) → eqb a b ≡ eqb b a
-eqb_sym a b = by (eqb a b) refl
-  where
-    by : (c : Bool) → eqb a b ≡ c → eqb a b ≡ eqb b a
-    by true e = e ∙ sym (eq-eqb b a (sym (eqb-true a b e)))
-    by false e = e ∙ sym (ne_eqb b a (λ f. false-eqb_no f))
-      where
-        false-eqb_no : b ≡ a → ⊥
-        false-eqb_no f = absurd (cc (sym e ∙ eq-eqb a b (sym f)))
-
-pub eqb_refl : (a : ℕ) → eqb a a ≡ true
-eqb_refl a = eq-eqb a a refl
-
 pub or_parts_cases : (x y : Bool) → (x || y) ≡ true → (x ≡ true) ⊎ (y ≡ true)
 or_parts_cases true y h = inl refl
 or_parts_cases false y h = inr h
-
-pub or_right_true : (x y : Bool) → y ≡ true → (x || y) ≡ true
-or_right_true true y h = refl
-or_right_true false y h = h
-
-pub and_both : (x y : Bool) → (x && y) ≡ true → (x ≡ true) × (y ≡ true)
-and_both true y h = (refl, h)
-and_both false y h = absurd (cc h)
-
-pub some_is : {A : Type 0} (x y : A) → Some x ≡ Some y → x ≡ y
-some_is x y h = search
-
-pub or_parts : (x y : Bool) → (x || y) ≡ false → (x ≡ false) × (y ≡ false)
-or_parts true y h = absurd (cc h)
-or_parts false y h = (refl, h)
 
 -- what a filter keeps is found as before
 pub find_filter : {A : Type 0} (t u : A → Bool) (xs : List A) (x : A) → find t xs ≡ Some x → u x ≡ true → find t (filter u xs) ≡ Some x
@@ -267,7 +161,7 @@ find_filter {A} t u (y ∷ xs) x h k = by (u y) (t y) refl refl h (λ g. find_fi
     by : (b c : Bool) → u y ≡ b → t y ≡ c → cond c (Some y) (find t xs) ≡ Some x → (find t xs ≡ Some x → find t (filter u xs) ≡ Some x) → find t (cond b (y ∷ filter u xs) (filter u xs)) ≡ Some x
     by true true e f g rest = rw f g
     by true false e f g rest = rw f (rest g)
-    by false true e f g rest = absurd (cc (sym k ∙ ap u (sym (some_is y x g)) ∙ e))
+    by false true e f g rest = absurd (cc (sym k ∙ ap u (sym (same_Some y x g)) ∙ e))
     by false false e f g rest = rest g
 
 pub change_at_same : {A : Type 0} (xs : List A) (i : ℕ) (f : A → A) → ((x : A) → f x ≡ x) → change_at xs i f ≡ xs

@@ -36,13 +36,13 @@ use Rattle.history_laws.specs.Tracking.{Agrees}
 use Rattle.history_laws.specs.Entering.{InTurn}
 use Rattle.history_laws.specs.Fits.{Fits, AsksForFence}
 use Rattle.history_laws.specs.Sound.{Sound, SoundRun, IsSoundEvent, ChoosesActors}
-use Rattle.history_laws.proofs.Agree.{same_pei_is}
-use Rattle.history_laws.proofs.Lists.{and_both}
 use Rattle.history_laws.proofs.Steps.{agrees_next, agrees_at_start}
 use Rattle.history_laws.proofs.Entering.{in_turn_next, in_turn_at_start}
 use Rattle.history_laws.proofs.Fences.{settles_next, settles_at_start}
 use Rattle.history_laws.proofs.Clauses.{meets_calls, meets_flat, numbers_rightly, fits_entering, fits_fences}
 use Rattle.history_laws.proofs.Programs.{asks_next}
+use Rattle.std.proofs.lemmas.Bool.{not-true, and_parts}
+use Rattle.pei_types.proofs.Identities.{makes_is, same_pei_is}
 
 -- ---- sound journals
 
@@ -84,9 +84,6 @@ run_starts p m image = record { sound = sound_at_start m; asks = λ c on. absurd
 
 -- ---- rows
 
-pub makes_is : (k l : EventKind) → Makes k ≡ Makes l → k ≡ l
-makes_is k l h = search
-
 -- a call's row fits
 fits_load : (x : CoreNext) (m : MachineSpec) (image : Contents) (journal : List Event) (s : State) (a : Actor) (pc addr : ℕ) → IsTrue (is_actor_of m a) → a.lane.0 ≡ 0 → x ≡ Calls (call.Load pc addr) → (o : Option PeiId) → conflict s (block_of addr) false ≡ o → Fits x m image journal s a (race_or o pc (block_of addr) (event.Load addr (slice_index (flat_block image journal (block_of addr)).0 (word_of addr))))
 fits_load x m image journal s a pc addr actor lane same None h = (actor, (lane, (pc, same, h, refl)))
@@ -123,10 +120,6 @@ fits_plain_call x m image journal s a kind (call.End how) actor lane same h = fi
 pub phase_follows : (l : PeiLook) (ph : Phase) (kind : EventKind) → l.phase ≡ ph → follows_phase ph kind ≡ true → follows_phase l.phase kind ≡ true
 phase_follows l ph kind e h = ap (λ q. follows_phase q kind) e ∙ h
 
-not_is : (b : Bool) → not b ≡ true → b ≡ false
-not_is true h = absurd (cc h)
-not_is false h = refl
-
 pub fits_enter : (x : CoreNext) (m : MachineSpec) (image : Contents) (journal : List Event) (s : State) (a : Actor) (kind : EventKind) (l : PeiLook) (granted : Bool) → IsTrue (is_actor_of m a) → 0 < a.lane.0 → look_in s a.core a.lane ≡ Some l → l.phase ≡ phase.Issued → (granted ≡ true → entry_is_taken m s l ≡ false) → (o : Option PeiId) → first_unentered s l.id.core ≡ o → enter_row l granted o ≡ Makes kind → Fits x m image journal s a kind
 fits_enter x m image journal s a kind l granted actor lane here e free None first h = absurd (cc h)
 fits_enter x m image journal s a kind l granted actor lane here e free (Some id) first h = by (same_pei id l.id) refl h
@@ -143,7 +136,7 @@ fits_enter x m image journal s a kind l granted actor lane here e free (Some id)
 
 fits_plain_pei : (x : CoreNext) (m : MachineSpec) (image : Contents) (journal : List Event) (s : State) (a : Actor) (kind : EventKind) (l : PeiLook) → IsTrue (is_actor_of m a) → 0 < a.lane.0 → look_in s a.core a.lane ≡ Some l → (ph : Phase) → l.phase ≡ ph → plain_pei m s (flat_block image journal) l ph ≡ Makes kind → Fits x m image journal s a kind
 fits_plain_pei x m image journal s a kind l actor lane here phase.Issued e h =
-    fits_enter x m image journal s a kind l (not (entry_is_taken m s l)) actor lane here e (not_is (entry_is_taken m s l)) (first_unentered s l.id.core) refl h
+    fits_enter x m image journal s a kind l (not (entry_is_taken m s l)) actor lane here e (not-true (entry_is_taken m s l)) (first_unentered s l.id.core) refl h
 fits_plain_pei x m image journal s a kind l actor lane here phase.Entered e h =
     subst (Fits x m image journal s a) (makes_is _ kind h) (actor, (lane, (l, here, refl, phase_follows l phase.Entered (event.Place l.id.seq place.Host) e refl, tt)))
 fits_plain_pei x m image journal s a kind l actor lane here phase.HostPlaced e h =
@@ -249,8 +242,8 @@ draws_choose m f turns stalls a h = spread m (f turns) a h
 -- a list of the machine's actors
 at_place : (m : MachineSpec) (list : List Actor) (n : ℕ) (a : Actor) → list_all (is_actor_of m) list ≡ true → slice_get list n ≡ Some a → is_actor_of m a ≡ true
 at_place m [] n a all h = absurd (cc h)
-at_place m (b ∷ list) zero a all h = subst (λ c. is_actor_of m c ≡ true) (some_actor b a h) ((and_both (is_actor_of m b) (list_all (is_actor_of m) list) all).0)
-at_place m (b ∷ list) (suc n) a all h = at_place m list n a ((and_both (is_actor_of m b) (list_all (is_actor_of m) list) all).1) h
+at_place m (b ∷ list) zero a all h = subst (λ c. is_actor_of m c ≡ true) (some_actor b a h) ((and_parts (is_actor_of m b) (list_all (is_actor_of m) list) all).0)
+at_place m (b ∷ list) (suc n) a all h = at_place m list n a ((and_parts (is_actor_of m b) (list_all (is_actor_of m) list) all).1) h
 
 pub lists_choose : (m : MachineSpec) (list : List Actor) → IsTrue (list_all (is_actor_of m) list) → ChoosesActors m (by_list list)
 lists_choose m list all turns stalls a h = at_place m list turns a all h

@@ -17,16 +17,17 @@ use Rattle.pei_types.specs.declared.events.EventKind.TheVariants as event
 use Rattle.pei_types.specs.declared.machines.MachineSpec.{MachineSpec}
 use Rattle.pei_types.specs.Blocks.{same_core}
 use Rattle.pei_types.specs.Calls.{AnswersCall, AnswersNext}
-use Rattle.pei_types.specs.Core.{CoreState, Stops, CoreNext, Calls, Busy, Ended, Effect, Goes, Asks, Wait, core_at_start, core_step, step_unless_over, step_at, step_unless_busy, step_of_effect, asks_unless, branch, at_stop, next_of, next_of_step, effect_of, busy_register, wait_at, core_after, after_answer, events_of, next_of_core}
+use Rattle.pei_types.specs.Core.{CoreState, Stops, CoreNext, Calls, Busy, Ended, Wait, core_at_start, core_step, step_unless_over, step_at, step_unless_busy, step_of_effect, asks_unless, branch, at_stop, next_of, next_of_step, effect_of, busy_register, wait_at, core_after, after_answer, events_of, next_of_core}
 use Rattle.pei_types.specs.History.{begins_fence}
 use Rattle.pei_types.specs.Program.{Listing, Contents, instr_at}
 use Rattle.pei_types.proofs.CoreStops.{steps_stop, stays}
 use Rattle.pei_types.proofs.Pushes.{core_after-push, events_of-push}
 use Rattle.history_laws.specs.Fits.{AsksForFence}
-use Rattle.history_laws.proofs.Lists.{eqb_refl}
-use Rattle.history_laws.proofs.Grows.{and-false}
-use Rattle.history_laws.proofs.Agree.{same_core_is, fence_off_here}
+use Rattle.history_laws.proofs.Agree.{fence_off_here}
 use Rattle.history_laws.proofs.Fences.{on_before}
+use Rattle.std.proofs.Math.Bool.{and-false}
+use Rattle.pei_types.proofs.Identities.{same_core_is}
+use Rattle.pei_types.proofs.Tests.{same_self}
 
 -- ---- a core at a fence
 
@@ -39,13 +40,6 @@ pub record AtFence (p : Listing) (fuel : ℕ) (s : CoreState) : Type 0 where
   pub no_race : s.raced ≡ None
   pub below : nat_lt s.retired fuel ≡ true
   pub here : instr_at p s.pc ≡ Some instr.Pfence
-
-not_goes : (s : CoreState) (e : Effect) → step_of_effect s e ≡ Stops (Calls call.Fence) → (x : Call) × (e ≡ Asks x) × (x ≡ call.Fence)
-not_goes s (Goes pc r) h = absurd (cc h)
-not_goes s (Asks x) h = (x, refl, calls_is x (stops_is (Calls x) (Calls call.Fence) h))
-  where
-    calls_is : (y : Call) → Calls y ≡ Calls call.Fence → y ≡ call.Fence
-    calls_is y e = search
 
 no_ask : (o : Option TrapCause) (pc : ℕ) (x : Call) (s : CoreState) → (x ≡ call.Fence → ⊥) → step_of_effect s (asks_unless o pc x) ≡ Stops (Calls call.Fence) → ⊥
 no_ask None pc x s other h = other (calls_is (stops_is (Calls x) (Calls call.Fence) h))
@@ -146,7 +140,7 @@ no_other x kind h answer = subst (λ y. AnswersNext y kind) h answer
 -- a core of which this is an event
 core_grown : (p : Listing) (m : MachineSpec) (image : Contents) (journal : List Event) (a : Actor) (kind : EventKind) → next_of_core p m image (journal ++ record { actor = a; kind = kind } ∷ []) a.core ≡ next_of p m.fuel m.blocks (after_answer p (at_stop p m.fuel m.blocks (core_after p m.fuel m.blocks (core_at_start image a.core) (events_of a.core journal))) kind)
 core_grown p m image journal a kind =
-    let own : events_of a.core (journal ++ record { actor = a; kind = kind } ∷ []) ≡ events_of a.core journal ++ record { actor = a; kind = kind } ∷ [] = events_of-push a.core journal (record { actor = a; kind = kind }) ∙ rw (eqb_refl a.core.0) refl
+    let own : events_of a.core (journal ++ record { actor = a; kind = kind } ∷ []) ≡ events_of a.core journal ++ record { actor = a; kind = kind } ∷ [] = events_of-push a.core journal (record { actor = a; kind = kind }) ∙ rw (same_self a.core.0) refl
     in ap (λ es. next_of p m.fuel m.blocks (core_after p m.fuel m.blocks (core_at_start image a.core) es)) own
     ∙ ap (next_of p m.fuel m.blocks) (core_after-push p m.fuel m.blocks (core_at_start image a.core) (events_of a.core journal) (record { actor = a; kind = kind }))
 

@@ -1,5 +1,5 @@
 -- The state and the history agree after each event that answers a call, and numbers an issue rightly.
-use Rattle.std.proofs.Common.{◌≡◌, ℕ, zero, suc, ◌<◌, slice_index, Bool, true, false, not, ◌||◌, if◌then◌else◌, List, [], ◌∷◌, ◌++◌, map, replicate, get_or, Option, Some, None, IsTrue, refl, sym, ap, subst, arith, nat_lt, nat_le, eqb, eqb-true, ltb-true}
+use Rattle.std.proofs.Common.{◌≡◌, ℕ, zero, suc, slice_index, Bool, true, false, not, ◌||◌, if◌then◌else◌, List, [], ◌∷◌, ◌++◌, map, replicate, get_or, Option, Some, None, IsTrue, refl, sym, ap, subst, arith, eqb, eqb-true}
 use Rattle.std.proofs.lemmas.List.{length-replicate, append_assoc, append-nil}
 use Rattle.pei_types.specs.declared.identifiers.Actor.{Actor}
 use Rattle.pei_types.specs.declared.identifiers.BlockNo.{BlockNo}
@@ -16,7 +16,7 @@ use Rattle.pei_types.specs.declared.events.EventKind.{EventKind}
 use Rattle.pei_types.specs.declared.events.EventKind.TheVariants as event
 use Rattle.pei_types.specs.declared.machines.MachineSpec.{MachineSpec}
 use Rattle.pei_types.specs.Blocks.{same_core}
-use Rattle.pei_types.specs.Calls.{AnswersCall, follows_phase, is_actor_of}
+use Rattle.pei_types.specs.Calls.{AnswersCall, follows_phase}
 use Rattle.pei_types.specs.Coherence.{State, start_state, next_state, state_after, after_placing, after_reading, after_acting, after_acting_in, after_taking_back, after_invalidating, after_downgrading, look_of, pei_id, is_phase, with_phase, is_m, letter_of, free_lane}
 use Rattle.pei_types.specs.Core.{CoreNext}
 use Rattle.pei_types.specs.Guard.{guard, is_lane}
@@ -27,9 +27,11 @@ use Rattle.pei_types.specs.Operation.{is_writer}
 use Rattle.pei_types.proofs.Histories.{from_of_each}
 use Rattle.pei_types.proofs.Pushes.{state_after-push}
 use Rattle.history_laws.specs.Tracking.{Agrees, issues_next, IsTrackable}
-use Rattle.history_laws.proofs.Grows.{and-false}
-use Rattle.history_laws.proofs.Lists.{and_both, eqb_refl}
 use Rattle.history_laws.proofs.Agree.{Moves, Keeps, agrees_moved, agrees_quiet, agrees_begin, agrees_end, agrees_left, agrees_issued}
+use Rattle.pei_types.proofs.Identities.{core_within}
+use Rattle.std.proofs.Math.Bool.{and-false}
+use Rattle.std.proofs.lemmas.Bool.{and_parts}
+use Rattle.pei_types.proofs.Tests.{same_self}
 
 -- ---- the events that move a PEI on
 
@@ -38,7 +40,7 @@ moves_enter seq =
     record { names = refl; after = refl; issues = λ a. refl; leave = λ n. refl; enters = enters; acts = acts; begins = λ c a. and-false (same_core a.core c); ends = λ c a. and-false (same_core a.core c) }
   where
     enters : (from : Phase) → follows_phase from (event.Enter seq) ≡ true → (not (is_phase from phase.Issued) || is_enter (event.Enter seq) seq) ≡ not (is_phase phase.Entered phase.Issued)
-    enters phase.Issued h = eqb_refl seq
+    enters phase.Issued h = same_self seq
     enters _ h = absurd (cc h)
 
     acts : (from : Phase) → follows_phase from (event.Enter seq) ≡ true → (is_phase from phase.Acted || is_act (event.Enter seq) seq) ≡ is_phase phase.Entered phase.Acted
@@ -103,8 +105,8 @@ moves_act seq reply =
     enters _ h = absurd (cc h)
 
     acts : (from : Phase) → follows_phase from (event.Act seq reply) ≡ true → (is_phase from phase.Acted || is_act (event.Act seq reply) seq) ≡ is_phase phase.Acted phase.Acted
-    acts phase.Read h = eqb_refl seq
-    acts phase.Sealed h = eqb_refl seq
+    acts phase.Read h = same_self seq
+    acts phase.Sealed h = same_self seq
     acts _ h = absurd (cc h)
 
 -- ---- what leaves PEIs, counts and fences as they are
@@ -143,10 +145,6 @@ pub keeps_downgrading : (m : MachineSpec) (s : State) (c : CoreId) (b : BlockNo)
 keeps_downgrading m s c b = let k = keeps_taking_back m s b (letter_of m s c b) in record { peis = k.peis; issues = k.issues; fences = k.fences }
 
 -- ---- each event
-
--- the actor's core is one of the machine's
-pub core_within : (m : MachineSpec) (a : Actor) → IsTrue (is_actor_of m a) → a.core.0 < m.cores
-core_within m a h = ltb-true a.core.0 m.cores (and_both (nat_lt a.core.0 m.cores) (nat_le a.lane.0 m.buffer) h).0
 
 -- The state and the history agree after one more event, which answers a call of its core or is its PEI's next. What
 -- else is asked is that an issue has its core's next number.
@@ -237,7 +235,7 @@ agrees_after m journal h = agrees_from m [] journal (from_of_each (IsTrackable m
 
 -- a guard numbers an issue rightly
 pub guard_numbers : (m : MachineSpec) (s : State) (a : Actor) (kind : EventKind) → IsTrue (guard m s a kind) → IsTrue (issues_next s a kind)
-guard_numbers m s a (event.Issue seq lane o b operands) h = (and_both (is_lane (free_lane m s a.core) lane) (eqb seq (slice_index s.issues a.core.0)) h).1
+guard_numbers m s a (event.Issue seq lane o b operands) h = (and_parts (is_lane (free_lane m s a.core) lane) (eqb seq (slice_index s.issues a.core.0)) h).1
 guard_numbers m s a _ h = refl
 
 -- so it is on a journal of the machine alone

@@ -45,15 +45,19 @@ use Rattle.history_laws.specs.Fits.{Fits, EntersFree}
 use Rattle.history_laws.specs.Holding.{claim_at, holds_entry, same_mode, count_in, count_all, counted, Holding}
 use Rattle.history_laws.specs.Runs.{WholeRun}
 use Rattle.history_laws.specs.Sound.{ChoosesActors, GoesByRow}
-use Rattle.history_laws.proofs.Lists.{find_Some, and_both, change_at_same, or-false, some_is, or_parts_cases}
-use Rattle.history_laws.proofs.Agree.{same_pei_is, Moves, moved, new_look}
+use Rattle.history_laws.proofs.Lists.{find_Some, change_at_same, or_parts_cases}
+use Rattle.history_laws.proofs.Agree.{Moves, moved, new_look}
 use Rattle.history_laws.proofs.Steps.{moves_place_host, moves_place_memory, moves_read, moves_seal, moves_act, keeps_placing, keeps_reading, keeps_acting, keeps_invalidating, keeps_downgrading}
 use Rattle.history_laws.proofs.Derived.{look_same}
 use Rattle.history_laws.proofs.Clauses.{IsOf, of_lane}
-use Rattle.history_laws.proofs.Plain.{makes_is, run_next, run_starts, chosen}
+use Rattle.history_laws.proofs.Plain.{run_next, run_starts, chosen}
 use Rattle.history_laws.proofs.Rows.{fits_call_row, fits_pei_row}
 use Rattle.history_laws.proofs.Counting.{changed}
 use Rattle.history_laws.proofs.Holding.{Follows, free_like, holding_follows, follows_same, follows_moved, follows_issued, holding_left, holding_announced, holding_granted, holding_released}
+use Rattle.pei_types.proofs.Identities.{same_lane_is, same_pei_is, makes_is}
+use Rattle.std.proofs.Math.Bool.{or-false}
+use Rattle.std.proofs.lemmas.Bool.{and_parts}
+use Rattle.std.proofs.lemmas.Option.{same_Some}
 
 -- ---- events
 
@@ -110,13 +114,6 @@ acted_past : (ph : Phase) (seq : ℕ) → follows_phase ph (event.Leave seq) ≡
 acted_past phase.Issued seq h = absurd (cc h)
 acted_past _ seq h = refl
 
-make_lane : ℕ → Lane
-make_lane l = record { 0 = l }
-
-lane_is : (a b : Lane) → same_lane a b ≡ true → a ≡ b
-unfolding make_lane
-lane_is a b h = ap make_lane (eqb-true a.0 b.0 h)
-
 -- The directory's entries count who holds them after an event that fits its actor, where a PEI that enters has its
 -- entry.
 pub holding_next : (x : CoreNext) (m : MachineSpec) (image : Contents) (journal : List Event) (s : State) (entries : List Claims) (claims : List (List LaneClaim)) (a : Actor) (kind : EventKind) → Agrees m s journal → Fits x m image journal s a kind → EntersHeld m s claims a kind → Holding m s entries claims → Holding m (next_state m s a kind) entries (changed claims a.core.0 a.lane.0 (after_leave kind))
@@ -145,7 +142,7 @@ holding_next x m image journal s entries claims a (event.Enter seq) g f e h =
 holding_next x m image journal s entries claims a (event.Leave seq) g f e h =
     let l = f.1.1.0
     in let o = of_lane m s journal a seq l g f.1.1.1 f.1.1.2
-    in holding_left m s (next_state m s a (event.Leave seq)) entries claims a seq l f.0 refl o.here o.named (lane_is l.lane a.lane o.lane) (acted_past l.phase seq f.1.1.3) (λ z i same. look_same m s journal g z l i o.here same) h
+    in holding_left m s (next_state m s a (event.Leave seq)) entries claims a seq l f.0 refl o.here o.named (same_lane_is l.lane a.lane o.lane) (acted_past l.phase seq f.1.1.3) (λ z i same. look_same m s journal g z l i o.here same) h
 holding_next x m image journal s entries claims a (event.Place seq place.Host) g f e h =
     kept m s (next_state m s a (event.Place seq place.Host)) entries claims a (after_leave (event.Place seq place.Host)) (λ z. refl)
     (follows_moved m s (next_state m s a (event.Place seq place.Host)) entries claims (pei_id a seq) phase.HostPlaced (ap (map (with_phase (pei_id a seq) phase.HostPlaced)) (keeps_placing m s (look_of s (pei_id a seq))).peis) (has_moved m s journal entries claims a (event.Place seq place.Host) seq phase.HostPlaced f.1.1.0 (moves_place_host seq) refl refl g f.1.1.1 f.1.1.2 f.1.1.3 h) h) h
@@ -250,7 +247,7 @@ no_enter_row l (Some first) kind h = by (same_pei first l.id) h
 not_entering : (x : CoreNext) (m : MachineSpec) (image : Contents) (journal : List Event) (s : State) (a : Actor) (kind : EventKind) (l : PeiLook) → look_in s a.core a.lane ≡ Some l → Fits x m image journal s a kind → pei_row m s (flat_block image journal) false l l.phase ≡ Makes kind → is_entering kind ≡ false
 not_entering x m image journal s a (event.Enter seq) l here f h =
     absurd (no_enter_row l (first_unentered s l.id.core) (event.Enter seq)
-    (subst (λ ph. pei_row m s (flat_block image journal) false l ph ≡ Makes (event.Enter seq)) (ap (λ z. z.phase) (some_is l f.1.1.0 (sym here ∙ f.1.1.1)) ∙ enters_issued f.1.1.0.phase seq f.1.1.3) h))
+    (subst (λ ph. pei_row m s (flat_block image journal) false l ph ≡ Makes (event.Enter seq)) (ap (λ z. z.phase) (same_Some l f.1.1.0 (sym here ∙ f.1.1.1)) ∙ enters_issued f.1.1.0.phase seq f.1.1.3) h))
 not_entering x m image journal s a _ l here f h = refl
 
 -- under a grant a PEI that has not entered does nothing else
@@ -328,8 +325,8 @@ entry_free m s entries claims p i fresh claim h = none_of (λ q. is_past_issue q
     apart : (q : PeiLook) → In q s.peis → (b : Bool) → (is_past_issue q && conflicts m p.block p.op q.block q.op) ≡ b → (is_past_issue q && conflicts m p.block p.op q.block q.op) ≡ false
     apart q j false e = e
     apart q j true e =
-        let both = and_both (is_past_issue q) (conflicts m p.block p.op q.block q.op) e
-        in let parts = and_both (eqb (entry_of m p.block) (entry_of m q.block)) (is_writer p.op || is_writer q.op) both.1
+        let both = and_parts (is_past_issue q) (conflicts m p.block p.op q.block q.op) e
+        in let parts = and_parts (eqb (entry_of m p.block) (entry_of m q.block)) (is_writer p.op || is_writer q.op) both.1
         in absurd (clash q j both.0 (eqb-true (entry_of m p.block) (entry_of m q.block) parts.0) (or_parts_cases (is_writer p.op) (is_writer q.op) parts.1))
 
 -- ---- the steps of a lane toward its entry
@@ -356,20 +353,20 @@ tried p m image r a l k actor here same free d = by (is_granted (claims_at r (en
 held_is_own : (m : MachineSpec) (s : State) (entries : List Claims) (claims : List (List LaneClaim)) (a : Actor) (l : PeiLook) (at : ℕ) (k : Mode) → Holding m s entries claims → look_in s a.core a.lane ≡ Some l → claim_at claims a.core.0 a.lane.0 ≡ Held at k → claim_at claims a.core.0 a.lane.0 ≡ Held (entry_of m l.block) (mode_of l.op)
 held_is_own m s entries claims a l at k holding here claim =
     let q = holding.held a at k claim
-    in let same : q.0 ≡ l = some_is q.0 l (sym q.1 ∙ here)
+    in let same : q.0 ≡ l = same_Some q.0 l (sym q.1 ∙ here)
     in claim ∙ ap₂ Held (sym q.2 ∙ ap (λ z. entry_of m z.block) same) (sym q.3 ∙ ap (λ z. mode_of z.op) same)
 
 -- so its PEI, if it has not entered, finds the entry free
 held_is_free : (m : MachineSpec) (s : State) (entries : List Claims) (claims : List (List LaneClaim)) (a : Actor) (l : PeiLook) (at : ℕ) (k : Mode) → Holding m s entries claims → look_in s a.core a.lane ≡ Some l → l.phase ≡ phase.Issued → claim_at claims a.core.0 a.lane.0 ≡ Held at k → entry_is_taken m s l ≡ false
 held_is_free m s entries claims a l at k holding here issued claim =
     let seen = find_Some (λ z. same_core z.id.core a.core && same_lane z.lane a.lane) s.peis l here
-    in let both = and_both (same_core l.id.core a.core) (same_lane l.lane a.lane) seen.1
+    in let both = and_parts (same_core l.id.core a.core) (same_lane l.lane a.lane) seen.1
     in entry_free m s entries claims l seen.0 (ap (λ ph. not (is_phase ph phase.Issued)) issued)
     (ap₂ (claim_at claims) (eqb-true l.id.core.0 a.core.0 both.0) (eqb-true l.lane.0 a.lane.0 both.1) ∙ held_is_own m s entries claims a l at k holding here claim) holding
 
 pub held_enters_free : (m : MachineSpec) (s : State) (entries : List Claims) (claims : List (List LaneClaim)) (a : Actor) (kind : EventKind) (l : PeiLook) (at : ℕ) (k : Mode) → Holding m s entries claims → look_in s a.core a.lane ≡ Some l → l.phase ≡ phase.Issued → claim_at claims a.core.0 a.lane.0 ≡ Held at k → EntersFree m s a kind
 held_enters_free m s entries claims a (event.Enter seq) l at k holding here issued claim =
-    λ z there. subst (λ y. entry_is_taken m s y ≡ false) (some_is l z (sym here ∙ there)) (held_is_free m s entries claims a l at k holding here issued claim)
+    λ z there. subst (λ y. entry_is_taken m s y ≡ false) (same_Some l z (sym here ∙ there)) (held_is_free m s entries claims a l at k holding here issued claim)
 held_enters_free m s entries claims a _ l at k holding here issued claim = tt
 
 -- a lane that holds its entry makes its row under the grant
@@ -387,7 +384,7 @@ held_row p m image r a l at k ready lane here issued claim d =
     free = held_is_free m s r.entries r.claims a l at k d.holding here issued claim
 
     enters : (kind : EventKind) → EntersHeld m s r.claims a kind
-    enters (event.Enter seq) = λ z there. mine ∙ ap (λ y. Held (entry_of m y.block) (mode_of y.op)) (some_is l z (sym here ∙ there))
+    enters (event.Enter seq) = λ z there. mine ∙ ap (λ y. Held (entry_of m y.block) (mode_of y.op)) (same_Some l z (sym here ∙ there))
     enters _ = tt
 
     row : (kind : EventKind) → pei_row m s (flat_block image r.journal) true l l.phase ≡ Makes kind → Fits (next_of_core p m image r.journal a.core) m image r.journal s a kind × EntersHeld m s r.claims a kind × GoesByRow p m image r.journal (record { actor = a; kind = kind })

@@ -7,8 +7,11 @@ use Rattle.std.proofs.lemmas.Map.Steps.{length-le_from_distinct_below}
 use Rattle.pei_types.specs.Recency.{list_at}
 use Rattle.link_list.specs.Linked.{has_node, follower}
 use Rattle.link_list.specs.Walks.{walk, walked, Links, IsChained}
-use Rattle.link_list.proofs.Nodes.{has_node-cons_same, distinct-head, distinct-tail, or_passes, not_both, has_node-same}
+use Rattle.link_list.proofs.Nodes.{has_node-same}
 use Rattle.link_list.proofs.Followers.{follower-cons_same, follower-cons_other}
+use Rattle.std.proofs.lemmas.Bool.{or_right}
+use Rattle.pei_types.proofs.Tests.{not_both}
+use Rattle.pei_types.proofs.Members.{distinct-head, distinct-tail, first_is_member}
 
 walk-list : (behind : List (Option ℕ)) (xs : List ℕ) (n : ℕ) → IsDistinct nat_eq xs
     → ((x : ℕ) → has_node xs x ≡ true → slice_index_or behind x None ≡ follower xs x) → length xs ≤ n → walk behind n (slice_get xs 0) ≡ xs
@@ -16,8 +19,8 @@ walk-list behind [] zero d next fits = refl
 walk-list behind [] (suc n) d next fits = refl
 walk-list behind (x ∷ xs) zero d next fits = absurd (omega arith)
 walk-list behind (x ∷ xs) (suc n) d next fits =
-    let on : slice_index_or behind x None ≡ slice_get xs 0 = next x (has_node-cons_same x xs) ∙ follower-cons_same x xs
-    in let rest = walk-list behind xs n (distinct-tail x xs d) (λ y here. next y (or_passes (nat_eq y x) (has_node xs y) here) ∙ follower-cons_other y x xs (λ same. not_both (has_node xs x) (has_node-same xs y x same here) (distinct-head x xs d))) (omega arith)
+    let on : slice_index_or behind x None ≡ slice_get xs 0 = next x (first_is_member x xs) ∙ follower-cons_same x xs
+    in let rest = walk-list behind xs n (distinct-tail x xs d) (λ y here. next y (or_right (nat_eq y x) (has_node xs y) here) ∙ follower-cons_other y x xs (λ same. not_both (has_node xs x) (has_node-same xs y x same here) (distinct-head x xs d))) (omega arith)
     in rw on (ap (λ ys. x ∷ ys) rest)
 
 -- the walks give the lists that the arrays have

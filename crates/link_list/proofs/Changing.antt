@@ -1,19 +1,11 @@
 -- Lists of lists of which one is changed, and the list that a node is in.
-use Rattle.std.proofs.Common.{◌≡◌, ◌≢◌, ◌⊎◌, ℕ, zero, suc, ◌+◌, ◌<◌, Bool, true, false, cond, List, [], ◌∷◌, map, length, Option, Some, None, refl, sym, ◌∙◌, ap, inl, inr, arith}
+use Rattle.std.proofs.Common.{◌≡◌, ◌≢◌, ℕ, zero, suc, ◌+◌, ◌<◌, Bool, true, false, cond, List, [], ◌∷◌, map, length, Option, Some, None, refl, sym, ◌∙◌, ap, inl, inr, arith}
 use Rattle.std.specs.List.{position_from}
 use Rattle.pei_types.specs.Recency.{change_at, list_at}
 use Rattle.link_list.specs.Linked.{Linked, IsWellFormed, has_node, list_of}
-use Rattle.link_list.proofs.Nodes.{not_both}
-
-pub length-change_at : {A : Type 0} (xs : List A) (i : ℕ) (f : A → A) → length (change_at xs i f) ≡ length xs
-length-change_at [] i f = refl
-length-change_at (x ∷ xs) zero f = refl
-length-change_at (x ∷ xs) (suc i) f = ap suc (length-change_at xs i f)
-
-pub list_at-change_at_same : {A : Type 0} (lists : List (List A)) (i : ℕ) (f : List A → List A) → i < length lists → list_at (change_at lists i f) i ≡ f (list_at lists i)
-list_at-change_at_same [] i f h = absurd (omega arith)
-list_at-change_at_same (x ∷ xs) zero f h = refl
-list_at-change_at_same (x ∷ xs) (suc i) f h = list_at-change_at_same xs i f (omega arith)
+use Rattle.std.proofs.lemmas.Bool.{cases_Bool}
+use Rattle.std.proofs.lemmas.Option.{same_Some}
+use Rattle.pei_types.proofs.Tests.{not_both}
 
 pub list_at-change_at_other : {A : Type 0} (lists : List (List A)) (i j : ℕ) (f : List A → List A) → j ≢ i → list_at (change_at lists i f) j ≡ list_at lists j
 list_at-change_at_other [] i j f h = refl
@@ -26,18 +18,6 @@ pub list_at-map : (f : List ℕ → List ℕ) → f [] ≡ [] → (lists : List 
 list_at-map f none [] i = sym none
 list_at-map f none (x ∷ xs) zero = refl
 list_at-map f none (x ∷ xs) (suc i) = list_at-map f none xs i
-
--- a function of each list, where one is changed
-pub map-change_at : {A B : Type 0} (f : A → B) (g : A → A) (h : B → B) → ((x : A) → f (g x) ≡ h (f x)) → (xs : List A) (i : ℕ) → map f (change_at xs i g) ≡ change_at (map f xs) i h
-map-change_at f g h same [] i = refl
-map-change_at f g h same (x ∷ xs) zero = ap (λ y. y ∷ map f xs) (same x)
-map-change_at f g h same (x ∷ xs) (suc i) = ap (λ ys. f x ∷ ys) (map-change_at f g h same xs i)
-
--- two changes of one list
-pub change_at-change_at : {A : Type 0} (f g : A → A) (xs : List A) (i : ℕ) → change_at (change_at xs i f) i g ≡ change_at xs i (λ x. g (f x))
-change_at-change_at f g [] i = refl
-change_at-change_at f g (x ∷ xs) zero = refl
-change_at-change_at f g (x ∷ xs) (suc i) = ap (λ ys. x ∷ ys) (change_at-change_at f g xs i)
 
 -- a change by two functions that agree on the list
 pub change_at-same : (f g : List ℕ → List ℕ) (lists : List (List ℕ)) (i : ℕ) → f (list_at lists i) ≡ g (list_at lists i) → change_at lists i f ≡ change_at lists i g
@@ -61,28 +41,21 @@ map-one f (x ∷ xs) (suc i) others = rw (others zero (λ e. absurd (omega arith
 pub some_or_none : (k : ℕ) → Some k ≡ None → ⊥
 some_or_none k e = cc e
 
-pub some_same : (x y : ℕ) → Some x ≡ Some y → x ≡ y
-some_same x y e = cc
-
-pub tells : (b : Bool) → (b ≡ true) ⊎ (b ≡ false)
-tells true = inl refl
-tells false = inr refl
-
 position-none : (p : List ℕ → Bool) → p [] ≡ false → (lists : List (List ℕ)) (i : ℕ) → position_from p i lists ≡ None → (l : ℕ) → p (list_at lists l) ≡ false
 position-none p none [] i h l = none
-position-none p none (x ∷ xs) i h zero = elim (tells (p x)) [
+position-none p none (x ∷ xs) i h zero = elim (cases_Bool (p x)) [
   | inl passes ↦ absurd (some_or_none i (rw passes at h))
   | inr fails ↦ fails
 ]
-position-none p none (x ∷ xs) i h (suc l) = elim (tells (p x)) [
+position-none p none (x ∷ xs) i h (suc l) = elim (cases_Bool (p x)) [
   | inl passes ↦ absurd (some_or_none i (rw passes at h))
   | inr fails ↦ position-none p none xs (i + 1) (rw fails at h) l
 ]
 
 position-some : (p : List ℕ → Bool) (lists : List (List ℕ)) (i k : ℕ) → position_from p i lists ≡ Some k → (l : ℕ) × (k ≡ i + l) × (l < length lists) × (p (list_at lists l) ≡ true)
 position-some p [] i k h = absurd (some_or_none k (sym h))
-position-some p (x ∷ xs) i k h = elim (tells (p x)) [
-  | inl passes ↦ let same = some_same i k (rw passes at h) in (0, omega arith, omega arith, passes)
+position-some p (x ∷ xs) i k h = elim (cases_Bool (p x)) [
+  | inl passes ↦ let same = same_Some i k (rw passes at h) in (0, omega arith, omega arith, passes)
   | inr fails ↦ let rest = position-some p xs (i + 1) k (rw fails at h) in (suc rest.0, omega (arith, rest.1), omega (arith, rest.2), rest.3)
 ]
 
@@ -122,7 +95,7 @@ list_of-found v formed node l here = by (list_of v node) refl
     by (Some k) h = h ∙ ap Some (formed.apart k l node (list_of-some v node k h).1 here)
 
 pub others_absent : (v : Linked) → IsWellFormed v → (node l : ℕ) → list_of v node ≡ Some l → (j : ℕ) → j ≢ l → has_node (list_at v.lists j) node ≡ false
-others_absent v formed node l h j apart = elim (tells (has_node (list_at v.lists j) node)) [
+others_absent v formed node l h j apart = elim (cases_Bool (has_node (list_at v.lists j) node)) [
   | inl here ↦ absurd (apart (formed.apart j l node here (list_of-some v node l h).1))
   | inr free ↦ free
 ]

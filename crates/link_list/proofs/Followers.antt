@@ -3,12 +3,15 @@ use Rattle.std.proofs.Common.{◌≡◌, ◌≢◌, ℕ, zero, suc, ◌+◌, ◌
 use Rattle.std.specs.Prelude.{slice_get, slice_index_or}
 use Rattle.std.specs.List.{last_or, IsDistinct}
 use Rattle.std.proofs.lemmas.Grind.{get_or-set_at}
-use Rattle.std.proofs.lemmas.List.{reverse-reverse, reverse-append, get_or-set_same, get_or-set_other, append-nil}
-use Rattle.std.proofs.lemmas.Bool.{eq-eqb, ne_eqb}
+use Rattle.std.proofs.lemmas.List.{reverse-reverse, reverse-append, get_or-set_same, get_or-set_other}
+use Rattle.std.proofs.lemmas.Bool.{eq-eqb, ne_eqb, or_right}
 use Rattle.std.proofs.lemmas.Bool.Decides.{eqb_tells}
 use Rattle.link_list.specs.Linked.{has_node, follower, rest_from}
 use Rattle.link_list.specs.Walks.{behind_led, firsts_led}
-use Rattle.link_list.proofs.Nodes.{has_node-cons_same, not_both, has_node-same, or_passes, distinct-head, distinct-tail, same_nodes-reverse}
+use Rattle.link_list.proofs.Nodes.{has_node-same, same_nodes-reverse}
+use Rattle.std.proofs.lemmas.Option.{same_Some}
+use Rattle.pei_types.proofs.Members.{last_is_member, distinct-head, distinct-tail, first_is_member}
+use Rattle.pei_types.proofs.Tests.{not_both}
 
 -- the first, or else the other
 abbrev pub or_else : Option ℕ → Option ℕ → Option ℕ
@@ -17,9 +20,6 @@ or_else (Some x) other = Some x
 
 none_or_some : (x : ℕ) → None ≡ Some x → ⊥
 none_or_some x e = cc e
-
-some_same : (x y : ℕ) → Some x ≡ Some y → x ≡ y
-some_same x y e = cc
 
 pub first-append : (ys zs : List ℕ) → slice_get (ys ++ zs) 0 ≡ or_else (slice_get ys 0) (slice_get zs 0)
 first-append [] zs = refl
@@ -39,9 +39,6 @@ follower-append_out (y ∷ ys) zs x h = elim (eqb_tells x y) [
   | inr other ↦ rw other.0 (follower-append_out ys zs x (rw other.0 at h))
 ]
 
-pub follower-absent : (xs : List ℕ) (x : ℕ) → has_node xs x ≡ false → follower xs x ≡ None
-follower-absent xs x h = ap (λ l. follower l x) (sym (append-nil xs)) ∙ follower-append_out xs [] x h
-
 pub follower-cons_same : (x : ℕ) (xs : List ℕ) → follower (x ∷ xs) x ≡ slice_get xs 0
 follower-cons_same x xs = rw (eq-eqb x x refl) refl
 
@@ -49,11 +46,6 @@ pub follower-cons_other : (x y : ℕ) (xs : List ℕ) → x ≢ y → follower (
 follower-cons_other x y xs other = rw (ne_eqb x y other) refl
 
 -- ---- the last node
-
-pub last_is_in : (ys : List ℕ) (p : ℕ) → last_or None ys ≡ Some p → has_node ys p ≡ true
-last_is_in [] p h = absurd (cc h)
-last_is_in (y ∷ []) p h = let same : p ≡ y = some_same p y (sym h) in rw (eq-eqb p y same) refl
-last_is_in (y ∷ z ∷ zs) p h = or_passes (nat_eq p y) (has_node (z ∷ zs) p) (last_is_in (z ∷ zs) p h)
 
 pub last_or-some : (y : ℕ) (ys : List ℕ) → last_or None (y ∷ ys) ≡ None → ⊥
 last_or-some y [] h = none_or_some y (sym h)
@@ -64,7 +56,7 @@ follower_last [] p d h = refl
 follower_last (y ∷ []) p d h = elim (eqb_tells p y) [ inl same ↦ rw same.0 refl | inr other ↦ rw other.0 refl ]
 follower_last (y ∷ z ∷ zs) p d h =
     let rest = follower_last (z ∷ zs) p (distinct-tail y (z ∷ zs) d) h
-    in let later = last_is_in (z ∷ zs) p h
+    in let later = last_is_member (z ∷ zs) p h
     in follower-cons_other p y (z ∷ zs) (λ same. not_both (has_node (z ∷ zs) y) (has_node-same (z ∷ zs) p y same later) (distinct-head y (z ∷ zs) d)) ∙ rest
 
 pub last_from_follower : (ys : List ℕ) (p : ℕ) → has_node ys p ≡ true → follower ys p ≡ None → last_or None ys ≡ Some p
@@ -117,7 +109,7 @@ led_in behind ys x old to d here within was = by (last_or None ys) refl
           in rw is_last (get_or-set_at behind p x to None same.1 (rw (sym same.1) within) ∙ ap (λ o. or_else o to) (sym none))
       | inr other ↦
           rw is_last (get_or-set_other behind p x to None other.1 ∙ was
-          ∙ or_else_same (follower ys x) old to (λ none. other.1 (some_same x p (sym (last_from_follower ys x here none) ∙ is_last))))
+          ∙ or_else_same (follower ys x) old to (λ none. other.1 (same_Some x p (sym (last_from_follower ys x here none) ∙ is_last))))
     ]
 
 pub led_out : (behind : List (Option ℕ)) (ys : List ℕ) (x : ℕ) (to : Option ℕ) → has_node ys x ≡ false → slice_index_or (behind_led behind (last_or None ys) to) x None ≡ slice_index_or behind x None
@@ -125,7 +117,7 @@ led_out behind ys x to free = by (last_or None ys) refl
   where
     by : (last : Option ℕ) → last_or None ys ≡ last → slice_index_or (behind_led behind (last_or None ys) to) x None ≡ slice_index_or behind x None
     by None is_last = rw is_last refl
-    by (Some p) is_last = rw is_last (get_or-set_other behind p x to None (λ same. not_both (has_node ys x) (has_node-same ys p x (sym same) (last_is_in ys p is_last)) free))
+    by (Some p) is_last = rw is_last (get_or-set_other behind p x to None (λ same. not_both (has_node ys x) (has_node-same ys p x (sym same) (last_is_member ys p is_last)) free))
 
 pub firsts_led_in : (firsts : List (Option ℕ)) (list : ℕ) (ys : List ℕ) (old to : Option ℕ) → list < length firsts
     → slice_index_or firsts list None ≡ or_else (slice_get ys 0) old → slice_index_or (firsts_led firsts list (last_or None ys) to) list None ≡ or_else (slice_get ys 0) to
@@ -144,12 +136,12 @@ firsts_led_out firsts list other (Some p) to apart = refl
 
 pub has_node-place : (xs : List ℕ) (place node : ℕ) → slice_get xs place ≡ Some node → has_node xs node ≡ true
 has_node-place [] place node h = absurd (none_or_some node h)
-has_node-place (x ∷ xs) zero node h = rw (eq-eqb node x (sym (some_same x node h))) refl
-has_node-place (x ∷ xs) (suc place) node h = or_passes (nat_eq node x) (has_node xs node) (has_node-place xs place node h)
+has_node-place (x ∷ xs) zero node h = rw (eq-eqb node x (sym (same_Some x node h))) refl
+has_node-place (x ∷ xs) (suc place) node h = or_right (nat_eq node x) (has_node xs node) (has_node-place xs place node h)
 
 pub follower-place : (xs : List ℕ) (place node : ℕ) → IsDistinct nat_eq xs → slice_get xs place ≡ Some node → follower xs node ≡ slice_get xs (place + 1)
 follower-place [] place node d h = absurd (none_or_some node h)
-follower-place (x ∷ xs) zero node d h = rw (eq-eqb node x (sym (some_same x node h))) refl
+follower-place (x ∷ xs) zero node d h = rw (eq-eqb node x (sym (same_Some x node h))) refl
 follower-place (x ∷ xs) (suc place) node d h =
     let later = has_node-place xs place node h
     in let on : suc place + 1 ≡ suc (place + 1) = omega arith
@@ -169,14 +161,14 @@ rest_from-cons_other x xs (Some y) other = rw (ne_eqb y x (λ same. other (ap So
 rest_from-second : (x : ℕ) (xs : List ℕ) → IsDistinct nat_eq (x ∷ xs) → rest_from (x ∷ xs) (slice_get xs 0) ≡ xs
 rest_from-second x [] d = refl
 rest_from-second x (y ∷ ys) d =
-    rest_from-cons_other x (y ∷ ys) (Some y) (λ same. not_both (has_node (y ∷ ys) x) (has_node-same (y ∷ ys) y x (some_same y x same) (has_node-cons_same y ys)) (distinct-head x (y ∷ ys) d))
+    rest_from-cons_other x (y ∷ ys) (Some y) (λ same. not_both (has_node (y ∷ ys) x) (has_node-same (y ∷ ys) y x (same_Some y x same) (first_is_member y ys)) (distinct-head x (y ∷ ys) d))
     ∙ rest_from-front (y ∷ ys)
 
 pub follower_is_in : (xs : List ℕ) (node y : ℕ) → follower xs node ≡ Some y → has_node xs y ≡ true
 follower_is_in [] node y h = absurd (none_or_some y h)
 follower_is_in (x ∷ xs) node y h = elim (eqb_tells node x) [
-  | inl same ↦ or_passes (nat_eq y x) (has_node xs y) (has_node-place xs 0 y (rw same.0 at h))
-  | inr other ↦ or_passes (nat_eq y x) (has_node xs y) (follower_is_in xs node y (rw other.0 at h))
+  | inl same ↦ or_right (nat_eq y x) (has_node xs y) (has_node-place xs 0 y (rw same.0 at h))
+  | inr other ↦ or_right (nat_eq y x) (has_node xs y) (follower_is_in xs node y (rw other.0 at h))
 ]
 
 pub rest_from-node : (xs : List ℕ) (node : ℕ) → IsDistinct nat_eq xs → has_node xs node ≡ true → rest_from xs (Some node) ≡ node ∷ rest_from xs (follower xs node)

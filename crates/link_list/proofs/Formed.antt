@@ -1,11 +1,14 @@
 -- What stays true of the lists after each change.
-use Rattle.std.proofs.Common.{◌≡◌, ◌≢◌, ◌⊎◌, ℕ, ◌<◌, Bool, true, false, ◌||◌, true≢false, List, [], ◌∷◌, ◌++◌, length, filter, Some, None, nat_eq, refl, sym, ◌∙◌, ap, inl, inr}
+use Rattle.std.proofs.Common.{◌≡◌, ◌≢◌, ◌⊎◌, ℕ, ◌<◌, Bool, true, false, ◌||◌, List, [], ◌∷◌, ◌++◌, length, Some, None, nat_eq, refl, sym, ◌∙◌, ap, inl, inr}
 use Rattle.std.specs.List.{IsDistinct}
 use Rattle.std.proofs.lemmas.Bool.Decides.{eqb_tells}
 use Rattle.pei_types.specs.Recency.{change_at, list_at, without, to_front}
 use Rattle.link_list.specs.Linked.{Linked, IsWellFormed, has_node, list_of, pushed_front, pushed_back, unlinked, moved_front}
-use Rattle.link_list.proofs.Nodes.{not_both, has_node-append, has_node-cons_same, has_node-cons_other, has_node-middle, distinct-cons, distinct-push, distinct-head, distinct-tail, distinct-without, absent-without, has_node-without_other, without-absent}
-use Rattle.link_list.proofs.Changing.{list_at-change_at_same, list_at-change_at_other, list_at-map, map-one, change_at-same, position-change_at, position-map, list_of-none, list_of-some, list_of-free, list_of-found, others_absent}
+use Rattle.link_list.proofs.Nodes.{has_node-append, has_node-cons_other, has_node-middle, distinct-push, has_node-without_other, without-absent}
+use Rattle.link_list.proofs.Changing.{list_at-change_at_other, list_at-map, map-one, change_at-same, position-change_at, position-map, list_of-none, list_of-some, list_of-free, list_of-found, others_absent}
+use Rattle.pei_types.proofs.Members.{filter-absent, filter-once, member_before-without, distinct-cons, first_is_member, absent-without, distinct-without}
+use Rattle.pei_types.proofs.Tests.{not_both}
+use Rattle.pei_types.proofs.Lists.{list_at-change_at_same}
 
 -- ---- one list is changed
 
@@ -79,22 +82,16 @@ pushed_back-well_formed v formed list node on within free =
 
 -- ---- a node is taken out
 
-has_node-without : (x node : ℕ) (xs : List ℕ) → has_node (without (nat_eq node) xs) x ≡ true → has_node xs x ≡ true
-has_node-without x node xs here = elim (eqb_tells x node) [
-  | inl same ↦ absurd (not_both (has_node (without (nat_eq node) xs) x) here (ap (λ z. has_node (without (nat_eq node) xs) z) same.1 ∙ absent-without node xs))
-  | inr other ↦ sym (has_node-without_other x node xs other.1) ∙ here
-]
-
 pub list_at-unlinked : (v : Linked) (node l : ℕ) → list_at (unlinked v node).lists l ≡ without (nat_eq node) (list_at v.lists l)
 list_at-unlinked v node l = list_at-map (without (nat_eq node)) refl v.lists l
 
 pub unlinked-well_formed : (v : Linked) → IsWellFormed v → (node : ℕ) → IsWellFormed (unlinked v node)
 unlinked-well_formed v formed node = record {
-  in_range = λ l x here. formed.in_range l x (has_node-without x node (list_at v.lists l) (ap (λ xs. has_node xs x) (sym (list_at-unlinked v node l)) ∙ here));
+  in_range = λ l x here. formed.in_range l x (member_before-without x node (list_at v.lists l) (ap (λ xs. has_node xs x) (sym (list_at-unlinked v node l)) ∙ here));
   distinct = λ l. rw (list_at-unlinked v node l) (distinct-without node (list_at v.lists l) (formed.distinct l));
   apart = λ l m x here there. formed.apart l m x
-      (has_node-without x node (list_at v.lists l) (ap (λ xs. has_node xs x) (sym (list_at-unlinked v node l)) ∙ here))
-      (has_node-without x node (list_at v.lists m) (ap (λ xs. has_node xs x) (sym (list_at-unlinked v node m)) ∙ there));
+      (member_before-without x node (list_at v.lists l) (ap (λ xs. has_node xs x) (sym (list_at-unlinked v node l)) ∙ here))
+      (member_before-without x node (list_at v.lists m) (ap (λ xs. has_node xs x) (sym (list_at-unlinked v node m)) ∙ there));
 }
 
 pub unlinked-one : (v : Linked) → IsWellFormed v → (node l : ℕ) → list_of v node ≡ Some l → unlinked v node ≡ record v { lists = change_at v.lists l (without (nat_eq node)) }
@@ -102,20 +99,6 @@ unlinked-one v formed node l h =
     ap (λ ls. record v { lists = ls }) (map-one (without (nat_eq node)) v.lists l (λ j apart. without-absent node (list_at v.lists j) (others_absent v formed node l h j apart)))
 
 -- ---- a node goes to the front
-
-filter-absent : (node : ℕ) (xs : List ℕ) → has_node xs node ≡ false → filter (nat_eq node) xs ≡ []
-filter-absent node [] none = refl
-filter-absent node (y ∷ ys) none = elim (eqb_tells node y) [
-  | inl same ↦ absurd (true≢false (rw same.0 at none))
-  | inr other ↦ rw other.0 (filter-absent node ys (rw other.0 at none))
-]
-
-filter-once : (node : ℕ) (xs : List ℕ) → IsDistinct nat_eq xs → has_node xs node ≡ true → filter (nat_eq node) xs ≡ node ∷ []
-filter-once node [] h here = absurd (true≢false (sym here))
-filter-once node (y ∷ ys) h here = elim (eqb_tells node y) [
-  | inl same ↦ rw same.0 (ap (λ zs. y ∷ zs) (filter-absent node ys (ap (λ z. has_node ys z) same.1 ∙ distinct-head y ys h)) ∙ ap (λ z. z ∷ []) (sym same.1))
-  | inr other ↦ rw other.0 (filter-once node ys (distinct-tail y ys h) (rw other.0 at here))
-]
 
 pub to_front-absent : (node : ℕ) (xs : List ℕ) → has_node xs node ≡ false → to_front (nat_eq node) xs ≡ xs
 to_front-absent node xs none = ap (λ ys. ys ++ without (nat_eq node) xs) (filter-absent node xs none) ∙ without-absent node xs none
@@ -143,7 +126,7 @@ list_of-pushed_back_other v list node x other = position-change_at (λ xs. has_n
 pub list_of-pushed_front_same : (v : Linked) → IsWellFormed v → (list node : ℕ) → list < length v.lists → node < v.nodes → list_of v node ≡ None → list_of (pushed_front v list node) node ≡ Some list
 list_of-pushed_front_same v formed list node on within free =
     list_of-found (pushed_front v list node) (pushed_front-well_formed v formed list node on within free) node list
-    (ap (λ xs. has_node xs node) (list_at-change_at_same v.lists list (λ xs. node ∷ xs) on) ∙ has_node-cons_same node (list_at v.lists list))
+    (ap (λ xs. has_node xs node) (list_at-change_at_same v.lists list (λ xs. node ∷ xs) on) ∙ first_is_member node (list_at v.lists list))
 
 pub list_of-pushed_back_same : (v : Linked) → IsWellFormed v → (list node : ℕ) → list < length v.lists → node < v.nodes → list_of v node ≡ None → list_of (pushed_back v list node) node ≡ Some list
 list_of-pushed_back_same v formed list node on within free =

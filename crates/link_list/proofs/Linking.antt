@@ -1,5 +1,5 @@
 -- The arrays after a node was put in front or behind, or was taken out.
-use Rattle.std.proofs.Common.{◌≡◌, ◌≢◌, ℕ, zero, suc, ◌<◌, Bool, true, false, ◌||◌, true≢false, List, [], ◌∷◌, ◌++◌, length, replicate, Option, Some, None, nat_eq, refl, sym, ◌∙◌, ap, inl, inr, arith}
+use Rattle.std.proofs.Common.{◌≡◌, ◌≢◌, ℕ, ◌<◌, Bool, true, false, ◌||◌, true≢false, List, [], ◌∷◌, ◌++◌, length, replicate, Option, Some, None, nat_eq, refl, sym, ◌∙◌, ap, inl, inr, arith}
 use Rattle.std.specs.Prelude.{slice_get, slice_set, slice_index_or}
 use Rattle.std.specs.List.{last_or, IsDistinct}
 use Rattle.std.proofs.lemmas.Grind.{get_or-set_at}
@@ -7,19 +7,17 @@ use Rattle.std.proofs.lemmas.List.{get_or-replicate, get_or-set_other, length-se
 use Rattle.pei_types.specs.Recency.{change_at, list_at, without}
 use Rattle.link_list.specs.Linked.{IsWellFormed, has_node, follower}
 use Rattle.link_list.specs.Walks.{Links, behind_led, firsts_led}
-use Rattle.link_list.proofs.Nodes.{not_both, has_node-same, has_node-append, has_node-middle, or_passes, passes_or, or_fails, distinct-head, distinct-front, distinct-back, distinct-apart, without-split}
+use Rattle.link_list.proofs.Nodes.{has_node-same, has_node-append, has_node-middle, or_fails, distinct-front, distinct-back, distinct-apart, without-split}
 use Rattle.link_list.proofs.Followers.{or_else, first-append, follower-append_in, follower-append_out, follower-cons_same, follower-cons_other, led_in, led_out, firsts_led_in, firsts_led_out}
-use Rattle.link_list.proofs.Changing.{length-change_at, tells}
 use Rattle.link_list.proofs.Formed.{at_changed, comes_or_is, has_node-push}
+use Rattle.pei_types.proofs.Lists.{list_at-none, length-change_at}
+use Rattle.std.proofs.lemmas.Bool.{cases_Bool, or_left, or_right}
+use Rattle.pei_types.proofs.Tests.{not_both}
+use Rattle.pei_types.proofs.Members.{distinct-head}
 
 or_else-none : (o : Option ℕ) → or_else o None ≡ o
 or_else-none None = refl
 or_else-none (Some x) = refl
-
-pub list_at-none : (m l : ℕ) → list_at {A = ℕ} (replicate m []) l ≡ []
-list_at-none zero l = refl
-list_at-none (suc m) zero = refl
-list_at-none (suc m) (suc l) = list_at-none m l
 
 pub none_formed : (n m : ℕ) → IsWellFormed (record { nodes = n; lists = replicate m [] })
 unfolding IsDistinct
@@ -49,7 +47,7 @@ differs : (lists : List (List ℕ)) (node l x : ℕ) → ((m : ℕ) → has_node
 differs lists node l x free here same = not_both (has_node (list_at lists l) node) (has_node-same (list_at lists l) x node same here) (free l)
 
 elsewhere : (behind firsts : List (Option ℕ)) (lists : List (List ℕ)) → Links behind firsts lists → (list l x : ℕ) → l ≢ list → has_node (list_at lists l) x ≡ true → has_node (list_at lists list) x ≡ false
-elsewhere behind firsts lists links list l x apart here = elim (tells (has_node (list_at lists list) x)) [
+elsewhere behind firsts lists links list l x apart here = elim (cases_Bool (has_node (list_at lists list) x)) [
   | inl also ↦ absurd (apart (links.well_formed.apart l list x here also))
   | inr free ↦ free
 ]
@@ -161,16 +159,16 @@ out_linked behind firsts lists list node ys zs links on split formed =
       next = λ l x here. elim (at_changed lists list (without (nat_eq node)) on l) [
         | inl same ↦
             let remains : has_node (ys ++ zs) x ≡ true = ap (λ xs. has_node xs x) (sym (same.1 ∙ left)) ∙ here
-            in elim (tells (has_node ys x)) [
+            in elim (cases_Bool (has_node ys x)) [
               | inl before ↦
-                  let was : has_node (ys ++ node ∷ zs) x ≡ true = has_node-append ys (node ∷ zs) x ∙ passes_or (has_node ys x) (has_node (node ∷ zs) x) before
+                  let was : has_node (ys ++ node ∷ zs) x ≡ true = has_node-append ys (node ∷ zs) x ∙ or_left (has_node ys x) (has_node (node ∷ zs) x) before
                   in led_in behind ys x (Some node) to (distinct-front ys (node ∷ zs) differ) before (links.well_formed.in_range list x (ap (λ xs. has_node xs x) split ∙ was))
                   (was_next x was ∙ follower-append_in ys (node ∷ zs) x before)
                   ∙ ap (λ o. or_else (follower ys x) o) leads ∙ sym (follower-append_in ys zs x before) ∙ ap (λ xs. follower xs x) (sym (same.1 ∙ left))
               | inr later ↦
                   let in_rest : has_node zs x ≡ true = or_rest (has_node ys x) (has_node zs x) later (sym (has_node-append ys zs x) ∙ remains)
-                  in let in_both : has_node (node ∷ zs) x ≡ true = or_passes (nat_eq x node) (has_node zs x) in_rest
-                  in let was : has_node (ys ++ node ∷ zs) x ≡ true = has_node-append ys (node ∷ zs) x ∙ or_passes (has_node ys x) (has_node (node ∷ zs) x) in_both
+                  in let in_both : has_node (node ∷ zs) x ≡ true = or_right (nat_eq x node) (has_node zs x) in_rest
+                  in let was : has_node (ys ++ node ∷ zs) x ≡ true = has_node-append ys (node ∷ zs) x ∙ or_right (has_node ys x) (has_node (node ∷ zs) x) in_both
                   in led_out behind ys x to later ∙ was_next x was ∙ follower-append_out ys (node ∷ zs) x later
                   ∙ follower-cons_other x node zs (later_differs node x ys zs differ in_rest)
                   ∙ sym (follower-append_out ys zs x later) ∙ ap (λ xs. follower xs x) (sym (same.1 ∙ left))

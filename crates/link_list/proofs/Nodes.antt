@@ -1,17 +1,16 @@
 -- The nodes of one list: which they are, and that they differ.
 use Rattle.std.proofs.Common.{◌≡◌, ◌≢◌, ℕ, Bool, true, false, ◌||◌, true≢false, List, [], ◌∷◌, ◌++◌, reverse, nat_eq, refl, sym, ◌∙◌, ap, inl, inr}
-use Rattle.std.specs.List.{IsDistinct, AllByRecursion}
+use Rattle.std.specs.List.{IsDistinct}
 use Rattle.std.proofs.lemmas.List.{reverse-reverse, reverse-append}
 use Rattle.std.proofs.lemmas.List.Folds.{list_any-append}
 use Rattle.std.proofs.lemmas.List.Sorted.{list_any-IsPermutation, IsPermutation-reverse}
-use Rattle.std.proofs.lemmas.Map.Keys.{IsDistinct-head, IsDistinct-tail, IsDistinct-cons, IsDistinct-IsPermutation}
-use Rattle.std.proofs.lemmas.Bool.{eq-eqb, ne_eqb}
+use Rattle.std.proofs.lemmas.Map.Keys.{IsDistinct-IsPermutation}
+use Rattle.std.proofs.lemmas.Bool.{eq-eqb, ne_eqb, or_right}
 use Rattle.std.proofs.lemmas.Bool.Decides.{eqb_tells}
 use Rattle.link_list.specs.Linked.{has_node}
 use Rattle.pei_types.specs.Recency.{without}
-
-pub not_both : (b : Bool) → b ≡ true → b ≡ false → ⊥
-not_both b passes fails = true≢false (sym passes ∙ fails)
+use Rattle.pei_types.proofs.Tests.{not_both}
+use Rattle.pei_types.proofs.Members.{distinct-head, distinct-tail, distinct-cons, first_is_member}
 
 pub same_nodes-reverse : (xs : List ℕ) (node : ℕ) → has_node (reverse xs) node ≡ has_node xs node
 same_nodes-reverse xs node = sym (list_any-IsPermutation (nat_eq node) xs (reverse xs) (IsPermutation-reverse xs))
@@ -21,30 +20,6 @@ has_node-same xs x y same here = ap (λ z. has_node xs z) (sym same) ∙ here
 
 pub has_node-append : (ys zs : List ℕ) (node : ℕ) → has_node (ys ++ zs) node ≡ (has_node ys node || has_node zs node)
 has_node-append ys zs node = list_any-append (nat_eq node) ys zs
-
-pub or_passes : (a b : Bool) → b ≡ true → (a || b) ≡ true
-or_passes true b h = refl
-or_passes false b h = h
-
-absent : (x : ℕ) (xs : List ℕ) → AllByRecursion (λ y. nat_eq x y ≡ false) xs → has_node xs x ≡ false
-absent x [] h = refl
-absent x (y ∷ ys) h = rw h.0 (absent x ys h.1)
-
-differ : (x : ℕ) (xs : List ℕ) → has_node xs x ≡ false → AllByRecursion (λ y. nat_eq x y ≡ false) xs
-differ x [] h = tt
-differ x (y ∷ ys) h = elim (eqb_tells x y) [
-  | inl same ↦ absurd (true≢false (rw same.0 at h))
-  | inr other ↦ (other.0, differ x ys (rw other.0 at h))
-]
-
-pub distinct-head : (x : ℕ) (xs : List ℕ) → IsDistinct nat_eq (x ∷ xs) → has_node xs x ≡ false
-distinct-head x xs h = absent x xs (IsDistinct-head nat_eq x xs h)
-
-pub distinct-tail : (x : ℕ) (xs : List ℕ) → IsDistinct nat_eq (x ∷ xs) → IsDistinct nat_eq xs
-distinct-tail x xs h = IsDistinct-tail nat_eq x xs h
-
-pub distinct-cons : (x : ℕ) (xs : List ℕ) → has_node xs x ≡ false → IsDistinct nat_eq xs → IsDistinct nat_eq (x ∷ xs)
-distinct-cons x xs free h = IsDistinct-cons nat_eq x xs (differ x xs free) h
 
 flips : (x y : ℕ) → nat_eq x y ≡ nat_eq y x
 flips x y = elim (eqb_tells x y) [
@@ -64,9 +39,6 @@ distinct-push xs x free h = rw (sym (reverse-append_one xs x)) (distinct-reverse
 pub has_node-cons_other : (x y : ℕ) (xs : List ℕ) → x ≢ y → has_node (y ∷ xs) x ≡ has_node xs x
 has_node-cons_other x y xs other = rw (ne_eqb x y other) refl
 
-pub has_node-cons_same : (x : ℕ) (xs : List ℕ) → has_node (x ∷ xs) x ≡ true
-has_node-cons_same x xs = rw (eq-eqb x x refl) refl
-
 -- a node that is among others
 pub has_node-split : (x : ℕ) (xs : List ℕ) → has_node xs x ≡ true → (ys : List ℕ) × (zs : List ℕ) × (xs ≡ ys ++ x ∷ zs) × (has_node ys x ≡ false)
 has_node-split x [] h = absurd (true≢false (sym h))
@@ -84,13 +56,9 @@ distinct-apart (y ∷ ys) zs x h later =
     let none = distinct-head y (ys ++ zs) h
     in let rest = distinct-apart ys zs x (distinct-tail y (ys ++ zs) h) later
     in elim (eqb_tells x y) [
-      | inl same ↦ absurd (not_both (has_node (ys ++ zs) x) (has_node-append ys zs x ∙ or_passes (has_node ys x) (has_node zs x) later) (rw same.1 none))
+      | inl same ↦ absurd (not_both (has_node (ys ++ zs) x) (has_node-append ys zs x ∙ or_right (has_node ys x) (has_node zs x) later) (rw same.1 none))
       | inr other ↦ rw other.0 rest
     ]
-
-pub passes_or : (a b : Bool) → a ≡ true → (a || b) ≡ true
-passes_or true b h = refl
-passes_or false b h = absurd (true≢false (sym h))
 
 pub or_fails : (a b : Bool) → (a || b) ≡ false → a ≡ false
 or_fails true b h = h
@@ -109,13 +77,6 @@ distinct-back (y ∷ ys) zs h = distinct-back ys zs (distinct-tail y (ys ++ zs) 
 
 -- ---- without a node
 
-pub absent-without : (x : ℕ) (xs : List ℕ) → has_node (without (nat_eq x) xs) x ≡ false
-absent-without x [] = refl
-absent-without x (y ∷ ys) = elim (eqb_tells x y) [
-  | inl same ↦ rw same.0 (absent-without x ys)
-  | inr other ↦ rw other.0 (rw other.0 (absent-without x ys))
-]
-
 pub has_node-without_other : (x node : ℕ) (xs : List ℕ) → x ≢ node → has_node (without (nat_eq node) xs) x ≡ has_node xs x
 has_node-without_other x node [] other = refl
 has_node-without_other x node (y ∷ ys) other = elim (eqb_tells node y) [
@@ -130,18 +91,9 @@ without-absent node (y ∷ ys) none = elim (eqb_tells node y) [
   | inr rest ↦ rw rest.0 (ap (λ l. y ∷ l) (without-absent node ys (rw rest.0 at none)))
 ]
 
-pub distinct-without : (node : ℕ) (xs : List ℕ) → IsDistinct nat_eq xs → IsDistinct nat_eq (without (nat_eq node) xs)
-distinct-without node [] h = h
-distinct-without node (y ∷ ys) h =
-    let rest = distinct-without node ys (distinct-tail y ys h)
-    in elim (eqb_tells node y) [
-      | inl same ↦ rw same.0 rest
-      | inr other ↦ rw other.0 (distinct-cons y (without (nat_eq node) ys) (has_node-without_other y node ys (λ e. other.1 (sym e)) ∙ distinct-head y ys h) rest)
-    ]
-
 pub has_node-middle : (ys zs : List ℕ) (node : ℕ) → has_node (ys ++ node ∷ zs) node ≡ true
-has_node-middle [] zs node = has_node-cons_same node zs
-has_node-middle (y ∷ ys) zs node = or_passes (nat_eq node y) (has_node (ys ++ node ∷ zs) node) (has_node-middle ys zs node)
+has_node-middle [] zs node = first_is_member node zs
+has_node-middle (y ∷ ys) zs node = or_right (nat_eq node y) (has_node (ys ++ node ∷ zs) node) (has_node-middle ys zs node)
 
 pub without-split : (node : ℕ) (ys zs : List ℕ) → IsDistinct nat_eq (ys ++ node ∷ zs) → without (nat_eq node) (ys ++ node ∷ zs) ≡ ys ++ zs
 without-split node [] zs h = rw (eq-eqb node node refl) (without-absent node zs (distinct-head node zs h))

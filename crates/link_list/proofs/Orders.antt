@@ -1,5 +1,5 @@
 -- The order, the places and the number of the nodes of a list, with a node taken out or moved to the front.
-use Rattle.std.proofs.Common.{◌≡◌, ◌≢◌, ℕ, zero, suc, ◌+◌, ◌-◌, ◌<◌, ◌≤◌, Bool, true, false, not, ◌||◌, true≢false, List, [], ◌∷◌, ◌++◌, map, take, length, filter, Some, None, nat_eq, refl, sym, ◌∙◌, ap, inl, inr, arith, length-append}
+use Rattle.std.proofs.Common.{◌≡◌, ◌≢◌, ℕ, zero, suc, ◌+◌, ◌-◌, ◌<◌, ◌≤◌, Bool, true, false, not, true≢false, List, [], ◌∷◌, ◌++◌, map, take, length, filter, Some, None, nat_eq, refl, sym, ◌∙◌, ap, inl, inr, arith, length-append}
 use Rattle.std.specs.Prelude.{slice_get, IsTrue}
 use Rattle.std.specs.List.{last_or, IsDistinct}
 use Rattle.std.proofs.lemmas.List.{map-append, append-nil}
@@ -9,10 +9,16 @@ use Rattle.std.proofs.lemmas.Map.Steps.{length-le_from_distinct_below}
 use Rattle.std.proofs.lemmas.Bool.Decides.{eqb_tells}
 use Rattle.pei_types.specs.Recency.{change_at, list_at, without, to_front}
 use Rattle.link_list.specs.Linked.{Linked, IsWellFormed, has_node, list_of, pushed_front, pushed_back, unlinked, moved_front}
-use Rattle.link_list.proofs.Nodes.{not_both, has_node-same, has_node-append, has_node-split, has_node-cons_same, has_node-cons_other, or_passes, distinct-head, distinct-tail, distinct-cons, distinct-without, absent-without, has_node-without_other, without-absent, without-split}
+use Rattle.link_list.proofs.Nodes.{has_node-same, has_node-append, has_node-split, has_node-cons_other, has_node-without_other, without-absent, without-split}
 use Rattle.link_list.proofs.Followers.{has_node-place}
-use Rattle.link_list.proofs.Changing.{map-one, tells, some_same, some_or_none, list_at-change_at_same, position-map, list_of-some, others_absent}
+use Rattle.link_list.proofs.Changing.{map-one, some_or_none, position-map, list_of-some, others_absent}
 use Rattle.link_list.proofs.Formed.{list_at-unlinked, list_at-moved_front, to_front-once, to_front-absent}
+use Rattle.std.proofs.Math.Bool.{or-false}
+use Rattle.pei_types.proofs.Members.{map-filter, map-without, distinct-head, distinct-tail, distinct-cons, first_is_member, absent-without, distinct-without}
+use Rattle.std.proofs.lemmas.Bool.{cases_Bool, or_right}
+use Rattle.std.proofs.lemmas.Option.{same_Some}
+use Rattle.pei_types.proofs.Tests.{not_both}
+use Rattle.pei_types.proofs.Lists.{list_at-change_at_same}
 
 -- ---- places
 
@@ -26,8 +32,8 @@ place_of (x ∷ xs) node h = elim (eqb_tells node x) [
 pub place-once : (xs : List ℕ) (node k j : ℕ) → IsDistinct nat_eq xs → slice_get xs k ≡ Some node → slice_get xs j ≡ Some node → k ≡ j
 place-once [] node k j d h i = absurd (some_or_none node (sym h))
 place-once (x ∷ xs) node zero zero d h i = refl
-place-once (x ∷ xs) node zero (suc j) d h i = absurd (not_both (has_node xs x) (has_node-same xs node x (sym (some_same x node h)) (has_node-place xs j node i)) (distinct-head x xs d))
-place-once (x ∷ xs) node (suc k) zero d h i = absurd (not_both (has_node xs x) (has_node-same xs node x (sym (some_same x node i)) (has_node-place xs k node h)) (distinct-head x xs d))
+place-once (x ∷ xs) node zero (suc j) d h i = absurd (not_both (has_node xs x) (has_node-same xs node x (sym (same_Some x node h)) (has_node-place xs j node i)) (distinct-head x xs d))
+place-once (x ∷ xs) node (suc k) zero d h i = absurd (not_both (has_node xs x) (has_node-same xs node x (sym (same_Some x node i)) (has_node-place xs k node h)) (distinct-head x xs d))
 place-once (x ∷ xs) node (suc k) (suc j) d h i = ap suc (place-once xs node k j (distinct-tail x xs d) h i)
 
 pub once : (v : Linked) → IsWellFormed v → (node list place other_list other_place : ℕ) → slice_get (list_at v.lists list) place ≡ Some node → slice_get (list_at v.lists other_list) other_place ≡ Some node → (list ≡ other_list) × (place ≡ other_place)
@@ -39,12 +45,12 @@ once v formed node list place other_list other_place here there =
 
 filter-swap : (p q : ℕ → Bool) (xs : List ℕ) → filter p (filter q xs) ≡ filter q (filter p xs)
 filter-swap p q [] = refl
-filter-swap p q (x ∷ xs) = elim (tells (p x)) [
-  | inl p_yes ↦ elim (tells (q x)) [
+filter-swap p q (x ∷ xs) = elim (cases_Bool (p x)) [
+  | inl p_yes ↦ elim (cases_Bool (q x)) [
     | inl q_yes ↦ rw (p_yes, q_yes) (rw p_yes (ap (λ l. x ∷ l) (filter-swap p q xs)))
     | inr q_no ↦ rw (p_yes, q_no) (filter-swap p q xs)
   ]
-  | inr p_no ↦ elim (tells (q x)) [
+  | inr p_no ↦ elim (cases_Bool (q x)) [
     | inl q_yes ↦ rw (p_no, q_yes) (rw p_no (filter-swap p q xs))
     | inr q_no ↦ rw (p_no, q_no) (filter-swap p q xs)
   ]
@@ -58,20 +64,6 @@ filter-to_front test node xs =
     filter-append test (filter (nat_eq node) xs) (without (nat_eq node) xs)
     ∙ ap (λ l. l ++ filter test (without (nat_eq node) xs)) (filter-swap test (nat_eq node) xs)
     ∙ ap (λ l. filter (nat_eq node) (filter test xs) ++ l) (filter-without test node xs)
-
--- what nodes hold, where a test of what they hold answers as a test of the nodes
-map-filter : {A : Type 0} (hold : ℕ → A) (test : A → Bool) (p : ℕ → Bool) (xs : List ℕ) → ((y : ℕ) → has_node xs y ≡ true → test (hold y) ≡ p y) → map hold (filter p xs) ≡ filter test (map hold xs)
-map-filter hold test p [] agree = refl
-map-filter hold test p (x ∷ xs) agree =
-    let rest = map-filter hold test p xs (λ y here. agree y (or_passes (nat_eq y x) (has_node xs y) here))
-    in let at_x : test (hold x) ≡ p x = agree x (has_node-cons_same x xs)
-    in elim (tells (p x)) [
-      | inl passes ↦ rw (at_x, passes) (ap (λ l. hold x ∷ l) rest)
-      | inr fails ↦ rw (at_x, fails) rest
-    ]
-
-pub map-without : {A : Type 0} (hold : ℕ → A) (test : A → Bool) (node : ℕ) (xs : List ℕ) → ((other : ℕ) → IsTrue (has_node xs other) → test (hold other) ≡ nat_eq node other) → map hold (without (nat_eq node) xs) ≡ without test (map hold xs)
-map-without hold test node xs agree = map-filter hold (λ y. not (test y)) (λ y. not (nat_eq node y)) xs (λ y here. ap not (agree y here))
 
 pub map-to_front : {A : Type 0} (hold : ℕ → A) (test : A → Bool) (node : ℕ) (xs : List ℕ) → ((other : ℕ) → IsTrue (has_node xs other) → test (hold other) ≡ nat_eq node other) → map hold (to_front (nat_eq node) xs) ≡ to_front test (map hold xs)
 map-to_front hold test node xs agree =
@@ -93,11 +85,6 @@ map-changed hold new_hold (xs ∷ lists) zero change change_held others same =
 map-changed hold new_hold (xs ∷ lists) (suc list) change change_held others same =
     rw (others zero (λ e. absurd (omega arith))) (ap (λ ls. map hold xs ∷ ls) (map-changed hold new_hold lists list change change_held (λ other apart. others (suc other) (λ e. apart (omega arith))) same))
 
-pub map-same : {A : Type 0} (hold other_hold : ℕ → A) (xs : List ℕ) → ((node : ℕ) → IsTrue (has_node xs node) → hold node ≡ other_hold node) → map hold xs ≡ map other_hold xs
-map-same hold other_hold [] same = refl
-map-same hold other_hold (x ∷ xs) same =
-    rw (same x (has_node-cons_same x xs)) (ap (λ l. other_hold x ∷ l) (map-same hold other_hold xs (λ y here. same y (or_passes (nat_eq y x) (has_node xs y) here))))
-
 -- ---- the rest
 
 pub unlinked_rest : (v : Linked) → IsWellFormed v → (node list : ℕ) (front back : List ℕ) → list_at v.lists list ≡ front ++ node ∷ back → list_at (unlinked v node).lists list ≡ front ++ back
@@ -106,7 +93,7 @@ unlinked_rest v formed node list front back split =
 
 pub to_front-split : (node : ℕ) (ys zs : List ℕ) → IsDistinct nat_eq (ys ++ node ∷ zs) → to_front (nat_eq node) (ys ++ node ∷ zs) ≡ node ∷ (ys ++ zs)
 to_front-split node ys zs differ =
-    to_front-once node (ys ++ node ∷ zs) differ (has_node-append ys (node ∷ zs) node ∙ or_passes (has_node ys node) (has_node (node ∷ zs) node) (has_node-cons_same node zs))
+    to_front-once node (ys ++ node ∷ zs) differ (has_node-append ys (node ∷ zs) node ∙ or_right (has_node ys node) (has_node (node ∷ zs) node) (first_is_member node zs))
     ∙ ap (λ l. node ∷ l) (without-split node ys zs differ)
 
 pub moved_rest : (v : Linked) → IsWellFormed v → (node list : ℕ) (front back : List ℕ) → list_at v.lists list ≡ front ++ node ∷ back → list_at (moved_front v node).lists list ≡ node ∷ (front ++ back)
@@ -115,7 +102,7 @@ moved_rest v formed node list front back split =
 
 split-last : (xs : List ℕ) (node : ℕ) → last_or None xs ≡ Some node → xs ≡ take (length xs - 1) xs ++ node ∷ []
 split-last [] node h = absurd (some_or_none node (sym h))
-split-last (x ∷ []) node h = ap (λ n. n ∷ []) (some_same x node h)
+split-last (x ∷ []) node h = ap (λ n. n ∷ []) (same_Some x node h)
 split-last (x ∷ y ∷ ys) node h =
     let more : length (x ∷ y ∷ ys) - 1 ≡ suc (length (y ∷ ys) - 1) = omega arith
     in rw more (ap (λ l. x ∷ l) (split-last (y ∷ ys) node h))
@@ -153,13 +140,9 @@ has_node-filter_other node x (y ∷ ys) apart = elim (eqb_tells node y) [
   | inr other ↦ rw other.0 (has_node-filter_other node x ys apart)
 ]
 
-or_none : (b : Bool) → (b || false) ≡ b
-or_none true = refl
-or_none false = refl
-
 pub has_node-to_front : (node x : ℕ) (xs : List ℕ) → has_node (to_front (nat_eq node) xs) x ≡ has_node xs x
 has_node-to_front node x xs = has_node-append (filter (nat_eq node) xs) (without (nat_eq node) xs) x ∙ elim (eqb_tells x node) [
-  | inl same ↦ rw same.1 (rw (absent-without node xs) (or_none (has_node (filter (nat_eq node) xs) node) ∙ has_node-filter_same node xs))
+  | inl same ↦ rw same.1 (rw (absent-without node xs) (or-false (has_node (filter (nat_eq node) xs) node) ∙ has_node-filter_same node xs))
   | inr other ↦ rw (has_node-filter_other node x xs other.1) (has_node-without_other x node xs other.1)
 ]
 
@@ -167,7 +150,7 @@ pub list_of-moved_front : (v : Linked) (node other : ℕ) → list_of (moved_fro
 list_of-moved_front v node other = position-map (λ xs. has_node xs other) (to_front (nat_eq node)) (λ xs. has_node-to_front node other xs) v.lists 0
 
 distinct-to_front : (node : ℕ) (xs : List ℕ) → IsDistinct nat_eq xs → IsDistinct nat_eq (to_front (nat_eq node) xs)
-distinct-to_front node xs differ = elim (tells (has_node xs node)) [
+distinct-to_front node xs differ = elim (cases_Bool (has_node xs node)) [
   | inl here ↦ rw (to_front-once node xs differ here) (distinct-cons node (without (nat_eq node) xs) (absent-without node xs) (distinct-without node xs differ))
   | inr free ↦ rw (to_front-absent node xs free) differ
 ]

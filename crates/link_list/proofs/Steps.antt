@@ -1,17 +1,19 @@
 -- What each change of the arrays does to the lists that they have.
 use Rattle.std.proofs.Common.{◌≡◌, ℕ, ◌<◌, true, false, List, [], ◌∷◌, ◌++◌, reverse, length, replicate, Option, Some, None, nat_eq, refl, sym, ◌∙◌, ap, subst, arith}
-use Rattle.std.specs.Prelude.{slice_get, slice_set, slice_index_or}
+use Rattle.std.specs.Prelude.{slice_set, slice_index_or}
 use Rattle.std.specs.List.{last_or, IsDistinct}
 use Rattle.std.proofs.lemmas.List.{length-set, get_or_read_under, length-replicate}
 use Rattle.pei_types.specs.Recency.{change_at, list_at, without}
 use Rattle.link_list.specs.Linked.{Linked, IsWellFormed, has_node, list_of, follower, pushed_front, pushed_back, unlinked}
 use Rattle.link_list.specs.Walks.{walked, shown, Links, IsChained, behind_led, firsts_led}
-use Rattle.link_list.proofs.Nodes.{has_node-split, has_node-append, distinct-head, distinct-back, passes_or}
-use Rattle.link_list.proofs.Followers.{last_is_in, follower-reverse}
+use Rattle.link_list.proofs.Nodes.{has_node-split, has_node-append, distinct-back}
+use Rattle.link_list.proofs.Followers.{follower-reverse}
 use Rattle.link_list.proofs.Changing.{list_of-none, list_of-some}
 use Rattle.link_list.proofs.Formed.{pushed_front-well_formed, pushed_back-well_formed, unlinked-well_formed, unlinked-one}
 use Rattle.link_list.proofs.Arrays.{walked-lists, chained}
 use Rattle.link_list.proofs.Linking.{front_linked, back_linked, out_linked, length-behind_led, none_linked}
+use Rattle.std.proofs.lemmas.Bool.{or_left}
+use Rattle.pei_types.proofs.Members.{distinct-head, last_is_member}
 
 -- the arrays have these lists
 pub record Has (behind firsts : List (Option ℕ)) (v : Linked) : Type 0 where
@@ -32,12 +34,6 @@ pub has_none : (behind firsts : List (Option ℕ)) (n m : ℕ) → behind ≡ re
 has_none behind firsts n m b f = rw b (rw f (from_links (replicate n None) (replicate m None) (replicate m []) n (length-replicate n None) (none_linked n m)))
 
 -- ---- what is read
-
-pub first_read : (behind firsts : List (Option ℕ)) (v : Linked) → IsChained behind firsts → shown behind firsts ≡ v → (list : ℕ) → list < length v.lists → (x : Option ℕ) → x ≡ slice_index_or firsts list x → x ≡ slice_get (list_at v.lists list) 0
-first_read behind firsts v order e list on x read =
-    let there : list < length (walked behind firsts) = rw (sym e) at on
-    in subst (λ w. x ≡ slice_get (list_at w.lists list) 0) e
-    (get_or_read_under firsts list (length firsts) x None read (omega (arith, there, order.same_length)) refl ∙ order.first list there)
 
 pub follower_read : (behind firsts : List (Option ℕ)) (v : Linked) → IsChained behind firsts → shown behind firsts ≡ v → (list node : ℕ) → list_of v node ≡ Some list → (x : Option ℕ) → x ≡ slice_index_or behind node x → x ≡ follower (list_at v.lists list) node
 follower_read behind firsts v order e list node listed x read =
@@ -84,7 +80,7 @@ has_back behind firsts v order e list node on within free last is_last led led_f
 
 pub last_within : (behind firsts : List (Option ℕ)) (v : Linked) → IsChained behind firsts → shown behind firsts ≡ v → (list : ℕ) (last : Option ℕ) → last ≡ last_or None (list_at v.lists list) → (x : ℕ) → last ≡ Some x → x < length behind
 last_within behind firsts v order e list last is_last x some =
-    order.well_formed.in_range list x (last_is_in (list_at (walked behind firsts) list) x (sym (rw (sym e) at is_last) ∙ some))
+    order.well_formed.in_range list x (last_is_member (list_at (walked behind firsts) list) x (sym (rw (sym e) at is_last) ∙ some))
 
 -- ---- out
 
@@ -130,7 +126,7 @@ pub before_within : (behind firsts : List (Option ℕ)) (v : Linked) → IsChain
 before_within behind firsts v order e list node listed before is_before x some =
     let there = list_of-some (shown behind firsts) node list (rw (sym e) at listed)
     in let part = parts (list_at (walked behind firsts) list) node (order.well_formed.distinct list) there.1 before (rw (sym e) at is_before)
-    in order.well_formed.in_range list x (ap (λ xs. has_node xs x) part.split ∙ has_node-append part.ys (node ∷ part.zs) x ∙ passes_or (has_node part.ys x) (has_node (node ∷ part.zs) x) (last_is_in part.ys x (sym part.last ∙ some)))
+    in order.well_formed.in_range list x (ap (λ xs. has_node xs x) part.split ∙ has_node-append part.ys (node ∷ part.zs) x ∙ or_left (has_node part.ys x) (has_node (node ∷ part.zs) x) (last_is_member part.ys x (sym part.last ∙ some)))
 
 pub list_within : (behind firsts : List (Option ℕ)) (v : Linked) → IsChained behind firsts → shown behind firsts ≡ v → (list node : ℕ) → list_of v node ≡ Some list → list < length firsts
 list_within behind firsts v order e list node listed =

@@ -10,10 +10,12 @@ use Rattle.pei_types.specs.Recency.{list_at, without}
 use Rattle.link_list.specs.Linked.{Linked, IsWellFormed, IsOn, has_node, rest_from, list_of, follower, pushed_front, pushed_back, unlinked, moved_front, reversed}
 use Rattle.link_list.specs.Walks.{IsTied}
 use Rattle.link_list.proofs.Nodes.{same_nodes-reverse}
-use Rattle.link_list.proofs.Followers.{last_is_in, follower_is_in, rest_from-front, rest_from-node, last_or-reverse, first-reverse, follower-place, has_node-place}
-use Rattle.link_list.proofs.Changing.{list_at-map, map-change_at, change_at-change_at, position-map, list_of-free, list_of-some, list_of-found}
-use Rattle.link_list.proofs.Linking.{list_at-none, none_formed}
+use Rattle.link_list.proofs.Followers.{follower_is_in, rest_from-front, rest_from-node, last_or-reverse, first-reverse, follower-place, has_node-place}
+use Rattle.link_list.proofs.Changing.{list_at-map, position-map, list_of-free, list_of-some, list_of-found}
+use Rattle.link_list.proofs.Linking.{none_formed}
 use Rattle.link_list.proofs.Formed.{list_of-pushed_front_same, list_of-pushed_front_other, list_of-pushed_back_same, list_of-pushed_back_other, list_of-unlinked_same, list_of-unlinked_other, unlinked-one, moved_front-one}
+use Rattle.pei_types.proofs.Lists.{change_at-change_at, map-change_at, list_at-none}
+use Rattle.pei_types.proofs.Members.{last_is_member}
 
 -- ---- what is read
 
@@ -28,12 +30,6 @@ last_read f b o tied list x read = read ∙ sym (last_or-reverse (list_at f.list
 
 pub list_of-tied : (f b : Linked) (o : List (Option ℕ)) → IsTied f b o → (node : ℕ) → list_of b node ≡ list_of f node
 list_of-tied f b o tied node = ap (λ v. list_of v node) tied.both_ways ∙ position-map (λ xs. has_node xs node) reverse (λ xs. same_nodes-reverse xs node) f.lists 0
-
-pub nodes-tied : (f b : Linked) (o : List (Option ℕ)) → IsTied f b o → b.nodes ≡ f.nodes
-nodes-tied f b o tied = ap (λ v. v.nodes) tied.both_ways
-
-pub lists-tied : (f b : Linked) (o : List (Option ℕ)) → IsTied f b o → length b.lists ≡ length f.lists
-lists-tied f b o tied = ap (λ v. length v.lists) tied.both_ways ∙ length-map f.lists reverse
 
 pub before_read : (f b : Linked) (o : List (Option ℕ)) → IsTied f b o → (list node : ℕ) (x : Option ℕ) → x ≡ follower (list_at b.lists list) node → x ≡ follower (reverse (list_at f.lists list)) node
 before_read f b o tied list node x read = read ∙ ap (λ xs. follower xs node) (list_at-tied f b o tied list)
@@ -62,7 +58,7 @@ pub front_on : (v : Linked) → IsWellFormed v → (list : ℕ) (x : Option ℕ)
 front_on v formed list x read = if_on v formed list x (λ y some. has_node-place (list_at v.lists list) 0 y (sym read ∙ some))
 
 pub back_on : (v : Linked) → IsWellFormed v → (list : ℕ) (x : Option ℕ) → x ≡ last_or None (list_at v.lists list) → IfSome x (λ y. IsOn v list y)
-back_on v formed list x read = if_on v formed list x (λ y some. last_is_in (list_at v.lists list) y (sym read ∙ some))
+back_on v formed list x read = if_on v formed list x (λ y some. last_is_member (list_at v.lists list) y (sym read ∙ some))
 
 pub next_on : (v : Linked) → IsWellFormed v → (node list : ℕ) (x : Option ℕ) → x ≡ follower (list_at v.lists list) node → IfSome x (λ y. IsOn v list y)
 next_on v formed node list x read = if_on v formed list x (λ y some. follower_is_in (list_at v.lists list) node y (sym read ∙ some))

@@ -1,5 +1,5 @@
 -- The lines of a cache without their contents.
-use Rattle.std.proofs.Common.{◌≡◌, ◌⊎◌, ℕ, zero, suc, ◌%◌, ◌==◌, Bool, true, false, not, if◌then◌else◌, List, [], ◌∷◌, ◌++◌, length, map, filter, find, replicate, Option, Some, None, option_map, refl, sym, ◌∙◌, ap, inl, inr}
+use Rattle.std.proofs.Common.{◌≡◌, ℕ, zero, suc, ◌%◌, ◌==◌, Bool, not, if◌then◌else◌, List, [], ◌∷◌, ◌++◌, length, map, filter, find, replicate, Option, Some, None, option_map, refl, sym, ◌∙◌, ap, inl, inr}
 use Rattle.std.specs.List.{list_any, last_or}
 use Rattle.std.proofs.lemmas.List.{length-map, length-replicate, map-append}
 use Rattle.pei_types.specs.declared.identifiers.Block.{Block}
@@ -13,30 +13,28 @@ use Rattle.pei_types.specs.Recency.{change_at, list_at, without, to_front, victi
 use Rattle.llc.specs.declared.lines.HeldLine.{HeldLine}
 use Rattle.llc.specs.Cache.{Cache, empty_cache, set_of, lines_of, is_held_of, held_of, mark_of, mark_in, room_for, with_set, with_touch, with_line, with_dirty, with_clean, without_line}
 use Rattle.llc.specs.Laws.{bare, bare_sets, IsCacheOf}
-
-tells : (b : Bool) → (b ≡ true) ⊎ (b ≡ false)
-tells true = inl refl
-tells false = inr refl
+use Rattle.std.proofs.lemmas.Bool.{cases_Bool}
+use Rattle.pei_types.proofs.Lists.{length-change_at}
 
 -- ---- one set
 
 bare_filter : (p : state.LlcLine → Bool) (xs : List HeldLine) → map bare (filter (λ x. p (bare x)) xs) ≡ filter p (map bare xs)
 bare_filter p [] = refl
-bare_filter p (x ∷ xs) = elim (tells (p (bare x))) [
+bare_filter p (x ∷ xs) = elim (cases_Bool (p (bare x))) [
   | inl passes ↦ rw passes (ap (λ l. bare x ∷ l) (bare_filter p xs))
   | inr fails ↦ rw fails (bare_filter p xs)
 ]
 
 bare_find : (p : state.LlcLine → Bool) (xs : List HeldLine) → find p (map bare xs) ≡ option_map bare (find (λ x. p (bare x)) xs)
 bare_find p [] = refl
-bare_find p (x ∷ xs) = elim (tells (p (bare x))) [
+bare_find p (x ∷ xs) = elim (cases_Bool (p (bare x))) [
   | inl passes ↦ rw passes refl
   | inr fails ↦ rw fails (bare_find p xs)
 ]
 
 bare_any : (p : state.LlcLine → Bool) (xs : List HeldLine) → list_any p (map bare xs) ≡ list_any (λ x. p (bare x)) xs
 bare_any p [] = refl
-bare_any p (x ∷ xs) = elim (tells (p (bare x))) [
+bare_any p (x ∷ xs) = elim (cases_Bool (p (bare x))) [
   | inl passes ↦ rw passes refl
   | inr fails ↦ rw fails (bare_any p xs)
 ]
@@ -51,7 +49,7 @@ bare_front b xs =
 bare_marked : (b : BlockNo) (k : Mark) (change : HeldLine → HeldLine) → ((x : HeldLine) → bare (change x) ≡ record { block = x.block; mark = k }) → (xs : List HeldLine)
     → map bare (map (λ x. if is_held_of b x then change x else x) xs) ≡ map (λ x. if state.is_llc_line_of b x then record { block = x.block; mark = k } else x) (map bare xs)
 bare_marked b k change same [] = refl
-bare_marked b k change same (x ∷ xs) = elim (tells (is_held_of b x)) [
+bare_marked b k change same (x ∷ xs) = elim (cases_Bool (is_held_of b x)) [
   | inl passes ↦ rw passes (ap (λ y. y ∷ map bare (map (λ z. if is_held_of b z then change z else z) xs)) (same x) ∙ ap (λ l. record { block = x.block; mark = k } ∷ l) (bare_marked b k change same xs))
   | inr fails ↦ rw fails (ap (λ l. bare x ∷ l) (bare_marked b k change same xs))
 ]
@@ -65,7 +63,7 @@ block_of_last None = refl
 block_of_last (Some x) = refl
 
 bare_victim : (ways : ℕ) (xs : List HeldLine) → option_map (λ x. x.block) (victim ways (map bare xs)) ≡ option_map (λ x. x.block) (victim ways xs)
-bare_victim ways xs = rw (length-map xs bare) (elim (tells (length xs == ways)) [
+bare_victim ways xs = rw (length-map xs bare) (elim (cases_Bool (length xs == ways)) [
   | inl full ↦ rw full (ap (option_map (λ x. x.block)) (bare_last None xs) ∙ block_of_last (last_or None xs))
   | inr room ↦ rw room refl
 ])
@@ -85,11 +83,6 @@ bare_change f g same (xs ∷ sets) (suc i) = ap (λ l. map bare xs ∷ l) (bare_
 bare_empty : (n : ℕ) → bare_sets (replicate n []) ≡ replicate n []
 bare_empty zero = refl
 bare_empty (suc n) = ap (λ l. [] ∷ l) (bare_empty n)
-
-length-change_at : {A : Type 0} (xs : List A) (i : ℕ) (f : A → A) → length (change_at xs i f) ≡ length xs
-length-change_at [] i f = refl
-length-change_at (x ∷ xs) zero f = refl
-length-change_at (x ∷ xs) (suc i) f = ap suc (length-change_at xs i f)
 
 -- ---- the state
 

@@ -1,11 +1,9 @@
 -- Each call keeps a line for each slot that is not free.
-use Rattle.std.proofs.Common.{◌≡◌, ◌≢◌, ℕ, ◌%◌, ◌<◌, false, List, length, Some, None, refl, sym, ◌∙◌, ap, inl, inr, arith}
+use Rattle.std.proofs.Common.{◌≡◌, ◌≢◌, ℕ, ◌%◌, ◌<◌, false, List, length, Some, None, refl, sym, ◌∙◌, inl, inr, arith}
 use Rattle.std.specs.Prelude.{slice_set}
 use Rattle.std.proofs.lemmas.List.{get_or-set_same, get_or-set_other, length-set}
-use Rattle.std.proofs.lemmas.Bool.Decides.{eqb_tells}
-use Rattle.pei_types.specs.declared.identifiers.BlockNo.{BlockNo}
 use Rattle.pei_types.specs.Coherence.{is_absent}
-use Rattle.set_lists.specs.Placed.{Placed, IsListed, IsPlaced, key_at, touched, inserted, removed}
+use Rattle.set_lists.specs.Placed.{Placed, IsListed, IsPlaced, key_at, inserted, removed}
 use Rattle.set_lists.specs.Laws.{SlotsFollow}
 use Rattle.llc.specs.declared.lines.HeldLine.{HeldLine}
 use Rattle.llc.specs.Inside.{line_at, IsKept, blank}
@@ -15,31 +13,6 @@ set_same lines slot x within = get_or-set_same lines slot x blank within
 
 pub set_other : (lines : List HeldLine) (slot other : ℕ) (x : HeldLine) → other ≢ slot → line_at (slice_set lines slot x) other ≡ line_at lines other
 set_other lines slot other x apart = get_or-set_other lines slot other x blank apart
-
--- another mark or content of the line in a slot
-pub kept_changed : (v : Placed) (lines : List HeldLine) (slot : ℕ) (x : HeldLine) → slot < length lines → x.block ≡ (line_at lines slot).block → is_absent x.mark ≡ false → IsKept v lines → IsKept v (slice_set lines slot x)
-kept_changed v lines slot x within same present kept = record {
-  room = length-set lines slot x ∙ kept.room;
-  placed = kept.placed;
-  each = λ set other here. elim (eqb_tells other slot) [
-    | inl at_slot ↦
-        let was = kept.each set other here
-        in let e : x.block ≡ (line_at lines other).block = same ∙ ap (λ z. (line_at lines z).block) (sym at_slot.1)
-        in rw (at_slot.1, set_same lines slot x within) (record {
-          key = ap (λ z. key_at v.keys z) (sym at_slot.1) ∙ was.key ∙ ap (λ (k : BlockNo). Some k.0) (sym e);
-          home = ap (λ (k : BlockNo). k.0 % length v.lists) e ∙ was.home;
-          present = present;
-        })
-    | inr apart ↦ rw (set_other lines slot other x apart.1) (kept.each set other here)
-  ];
-}
-
-pub kept_touched : SlotsFollow → (v : Placed) (lines : List HeldLine) (set slot : ℕ) → IsListed v set slot → IsPlaced (touched v set slot) → IsKept v lines → IsKept (touched v set slot) lines
-kept_touched laws v lines set slot listed placed kept = record {
-  room = kept.room;
-  placed = placed;
-  each = λ other x here. rw (laws.count_touched v set slot) (kept.each other x (laws.touching v set slot listed other x here));
-}
 
 pub kept_removed : SlotsFollow → (v : Placed) (lines : List HeldLine) (set slot : ℕ) → IsListed v set slot → IsPlaced (removed v set slot) → IsKept v lines → IsKept (removed v set slot) lines
 kept_removed laws v lines set slot listed placed kept = record {

@@ -1,5 +1,5 @@
 -- The monitor in the state of the machine.
-use Rattle.std.proofs.Common.{◌≡◌, ℕ, zero, suc, ◌/◌, ◌%◌, List, [], ◌∷◌, length, replicate, find, refl, sym, ◌∙◌, ap}
+use Rattle.std.proofs.Common.{◌≡◌, ℕ, ◌/◌, ◌%◌, List, [], find, refl, sym, ◌∙◌, ap}
 use Rattle.std.proofs.lemmas.List.{length-replicate}
 use Rattle.pei_types.specs.declared.identifiers.BlockNo.{BlockNo}
 use Rattle.pei_types.specs.declared.machines.MachineSpec.{MachineSpec}
@@ -10,11 +10,7 @@ use Rattle.pei_types.specs.Monitor.{MonitorEntry, has_tag, place_by, after_acces
 use Rattle.pei_types.specs.Recency.{change_at, list_at}
 use Rattle.locality_monitor.specs.Table.{Table, empty_table, set_of, tag_of, with_access, with_placement, place_of}
 use Rattle.locality_monitor.specs.Laws.{IsMonitorOf}
-
-length-change_at : {A : Type 0} (xs : List A) (i : ℕ) (f : A → A) → length (change_at xs i f) ≡ length xs
-length-change_at [] i f = refl
-length-change_at (x ∷ xs) zero f = refl
-length-change_at (x ∷ xs) (suc i) f = ap suc (length-change_at xs i f)
+use Rattle.pei_types.proofs.Lists.{length-change_at}
 
 pub start_is : (m : MachineSpec) → IsMonitorOf m (start_state m) (empty_table m.llc_sets m.llc_ways)
 start_is m = record { sets = length-replicate {A = List MonitorEntry} m.llc_sets []; ways = refl; entries = refl }

@@ -1,14 +1,11 @@
 -- A number is a power of two exactly where it is 2 to its whole logarithm.
 use Rattle.std.proofs.Common.{◌≡◌, ℕ, ◌+◌, ◌*◌, ◌^◌, ◌<◌, ◌≤◌, Bool, true, false, ◌==◌, refl, sym, ◌∙◌, ap, subst, arith, inl, inr, ◌⊎◌}
-use Rattle.std.proofs.lemmas.Bool.{cases_order, false≢true}
+use Rattle.std.proofs.lemmas.Bool.{cases_order, false≢true, eqb-true}
 use Rattle.std.proofs.lemmas.Bool.Decides.{nat_tests}
 use Rattle.std.proofs.lemmas.Nat.{pow_below, pow-add}
 use Rattle.machine_file.specs.Machine.{is_power_of_two}
 use Rattle.pei_types.specs.Limits.{IsPowerOfTwo, log_two}
 use Rattle.pei_types.proofs.Powers.{power_of_log, power_is}
-
-equal_if : (a b : ℕ) → (a == b) ≡ true → a ≡ b
-equal_if a b t = grind (arith, nat_tests)
 
 test_if : (a b : ℕ) → a ≡ b → (a == b) ≡ true
 test_if a b e = grind (arith, nat_tests)
@@ -35,7 +32,7 @@ module _ (n r : ℕ) (small : r < 32) (low : 2 ^ r ≤ n) (high : n < 2 * 2 ^ r)
   by_tests : (a b : Bool) → (2 ^ r == n) ≡ a → is_power_of_two n ≡ b → a ≡ b
   by_tests true true p q = refl
   by_tests false false p q = refl
-  by_tests true false p q = let t : is_power_of_two n ≡ true = subst IsPowerOfTwo (equal_if (2 ^ r) n p) (power_is r small) in absurd (false≢true (sym q ∙ t))
+  by_tests true false p q = let t : is_power_of_two n ≡ true = subst IsPowerOfTwo (eqb-true (2 ^ r) n p) (power_is r small) in absurd (false≢true (sym q ∙ t))
   by_tests false true p q = absurd (false≢true (sym p ∙ test_if (2 ^ r) n (one_power n r _ (power_of_log n q) low high)))
 
   pub power_test : (2 ^ r == n) ≡ is_power_of_two n

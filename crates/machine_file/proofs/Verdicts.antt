@@ -1,5 +1,5 @@
 -- A table that describes a machine has no fault.
-use Rattle.std.proofs.lemmas.Bool.{le-leb}
+use Rattle.std.proofs.lemmas.Bool.{le-leb, and_parts, and_from}
 use Rattle.std.proofs.Common.{◌≡◌, ℕ, nat_le, Bool, true, false, not, ◌&&◌, List, [], ◌∷◌, Option, Some, None, refl, sym, ◌∙◌, ap, subst, arith}
 use Rattle.std.specs.Prelude.{ℤ, pos, negsuc, find, is_none, option_map}
 use Rattle.std.specs.List.{AllByRecursion}
@@ -10,17 +10,10 @@ use Rattle.machine_file.specs.Machine.{MissingKey, Describes, DescribesOf, HaveT
 use Rattle.pei_types.specs.Limits.{IsWithin, IsPowerOfTwo, two_power_1}
 use Rattle.pei_types.specs.declared.machines.MachineSpec.{MachineSpec}
 
-both_true : (a b : Bool) → a ≡ true → b ≡ true → (a && b) ≡ true
-both_true a b h k = rw (h, k) refl
-
-and_parts : (a b : Bool) → (a && b) ≡ true → (a ≡ true) × (b ≡ true)
-and_parts true b h = (refl, h)
-and_parts false b h = absurd (cc h)
-
 -- ---- limits
 
 fine_size : (r : KeyRow) (n : ℕ) → IsWithin r.least r.greatest n → (r.power_of_two && not (is_power_of_two n)) ≡ false → size_fault r n ≡ None
-fine_size r n h k = rw (both_true (nat_le r.least n) (nat_le n r.greatest) (le-leb r.least n h.0) (le-leb n r.greatest h.1), k) refl
+fine_size r n h k = rw (and_from (nat_le r.least n) (nat_le n r.greatest) (le-leb r.least n h.0) (le-leb n r.greatest h.1), k) refl
 
 fine_power : (n : ℕ) → IsPowerOfTwo n → not (is_power_of_two n) ≡ false
 fine_power n h = ap not h

@@ -23,6 +23,7 @@ use Rattle.history_laws.specs.Sound.{MeetsState}
 use Rattle.coherence_laws.specs.Invariants.{Invariants}
 use Rattle.coherence_laws.specs.Laws.{IsAllowed, KeepsInvariants, LanesHoldPeis, RowsAreAllowed, TurnsAreAllowed}
 use Rattle.machine_laws.specs.Standing.{MachineInOrder}
+use Rattle.std.proofs.lemmas.Option.{same_Some}
 
 -- a PEI that enters finds its entry free, as a row's condition asks it
 free_at_enter : (m : MachineSpec) (s : State) (a : Actor) (kind : EventKind) → EntersFree m s a kind → (p : PeiLook) → look_in s a.core a.lane ≡ Some p → IsTrue (is_entering kind) → entry_is_taken m s p ≡ false
@@ -72,9 +73,6 @@ lane_in_order events rest keeps rows turns x m image journal e h own free lane n
 
 -- ---- an event that meets the clauses is a row
 
-same_some : (p q : PeiLook) → Some p ≡ Some q → p ≡ q
-same_some p q h = search
-
 pub enters_free : AgreementTells → LanesHoldPeis → (m : MachineSpec) (journal : List Event) (a : Actor) (kind : EventKind) (x : CoreNext) → MachineInOrder m journal → AnswersCall x m journal a kind → IsTrue (guard m (state_after m journal) a kind) → EntersFree m (state_after m journal) a kind
 enters_free tells lanes m journal a (event.Enter seq) x h calls ok =
     let s : State = state_after m journal
@@ -82,7 +80,7 @@ enters_free tells lanes m journal a (event.Enter seq) x h calls ok =
     in let here : look_in s a.core a.lane ≡ Some f.0 = lanes.placed m s a seq f.0 h.invariants f.1 f.2
     in let allowed : pei_guard m s (event.Enter seq) (Some f.0) ≡ true = subst (λ o. pei_guard m s (event.Enter seq) o ≡ true) f.1 ok
     in let free : not (entry_is_taken m s f.0) ≡ true = (and_parts (is_pei (first_unentered s f.0.id.core) f.0.id) (not (entry_is_taken m s f.0)) allowed).1
-    in λ l there. subst (λ q. entry_is_taken m s q ≡ false) (same_some f.0 l (sym here ∙ there)) (is_false (entry_is_taken m s f.0) free)
+    in λ l there. subst (λ q. entry_is_taken m s q ≡ false) (same_Some f.0 l (sym here ∙ there)) (is_false (entry_is_taken m s f.0) free)
   where
     is_false : (b : Bool) → not b ≡ true → b ≡ false
     is_false true e = absurd (cc e)

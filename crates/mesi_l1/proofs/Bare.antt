@@ -1,5 +1,5 @@
 -- The lines of a cache without their contents.
-use Rattle.std.proofs.Common.{◌≡◌, ℕ, zero, suc, ◌%◌, ◌<◌, ◌==◌, Bool, not, if◌then◌else◌, List, [], ◌∷◌, ◌++◌, length, map, filter, find, replicate, Option, Some, None, option_map, refl, sym, ◌∙◌, ap, inl, inr, arith}
+use Rattle.std.proofs.Common.{◌≡◌, ℕ, zero, suc, ◌%◌, ◌<◌, ◌==◌, Bool, not, if◌then◌else◌, List, [], ◌∷◌, ◌++◌, length, map, filter, find, replicate, Option, Some, None, option_map, refl, sym, ◌∙◌, ap, inl, inr}
 use Rattle.std.specs.List.{list_any, last_or}
 use Rattle.std.proofs.lemmas.List.{length-map, length-replicate, get_or-replicate, map-append}
 use Rattle.pei_types.specs.declared.identifiers.Block.{Block}
@@ -14,27 +14,28 @@ use Rattle.pei_types.specs.Recency.{change_at, list_at, without, to_front, victi
 use Rattle.mesi_l1.specs.declared.lines.CopyLine.{CopyLine}
 use Rattle.mesi_l1.specs.Cache.{Cache, empty_cache, set_of, lines_of, is_copy_of, copy_of, letter_of, letter_in, room_for, with_set, with_touch, with_front, with_shared, without_copy}
 use Rattle.mesi_l1.specs.Laws.{bare, bare_sets, IsCacheOf}
-use Rattle.mesi_l1.proofs.Changing.{tells}
+use Rattle.pei_types.proofs.Lists.{length-change_at, list_at-change_at_same}
+use Rattle.std.proofs.lemmas.Bool.{cases_Bool}
 
 -- ---- one set
 
 bare_filter : (p : state.Line → Bool) (xs : List CopyLine) → map bare (filter (λ x. p (bare x)) xs) ≡ filter p (map bare xs)
 bare_filter p [] = refl
-bare_filter p (x ∷ xs) = elim (tells (p (bare x))) [
+bare_filter p (x ∷ xs) = elim (cases_Bool (p (bare x))) [
   | inl passes ↦ rw passes (ap (λ l. bare x ∷ l) (bare_filter p xs))
   | inr fails ↦ rw fails (bare_filter p xs)
 ]
 
 bare_find : (p : state.Line → Bool) (xs : List CopyLine) → find p (map bare xs) ≡ option_map bare (find (λ x. p (bare x)) xs)
 bare_find p [] = refl
-bare_find p (x ∷ xs) = elim (tells (p (bare x))) [
+bare_find p (x ∷ xs) = elim (cases_Bool (p (bare x))) [
   | inl passes ↦ rw passes refl
   | inr fails ↦ rw fails (bare_find p xs)
 ]
 
 bare_any : (p : state.Line → Bool) (xs : List CopyLine) → list_any p (map bare xs) ≡ list_any (λ x. p (bare x)) xs
 bare_any p [] = refl
-bare_any p (x ∷ xs) = elim (tells (p (bare x))) [
+bare_any p (x ∷ xs) = elim (cases_Bool (p (bare x))) [
   | inl passes ↦ rw passes refl
   | inr fails ↦ rw fails (bare_any p xs)
 ]
@@ -49,7 +50,7 @@ bare_shared : (b : BlockNo) (xs : List CopyLine)
     → map bare (map (λ x. if is_copy_of b x then record { block = x.block; letter = letter.S; content = x.content } else x) xs)
     ≡ map (λ x. if state.is_line_of b x then record { block = x.block; letter = letter.S } else x) (map bare xs)
 bare_shared b [] = refl
-bare_shared b (x ∷ xs) = elim (tells (is_copy_of b x)) [
+bare_shared b (x ∷ xs) = elim (cases_Bool (is_copy_of b x)) [
   | inl passes ↦ rw passes (ap (λ l. record { block = x.block; letter = letter.S } ∷ l) (bare_shared b xs))
   | inr fails ↦ rw fails (ap (λ l. bare x ∷ l) (bare_shared b xs))
 ]
@@ -63,7 +64,7 @@ block_of_last None = refl
 block_of_last (Some x) = refl
 
 bare_victim : (ways : ℕ) (xs : List CopyLine) → option_map (λ x. x.block) (victim ways (map bare xs)) ≡ option_map (λ x. x.block) (victim ways xs)
-bare_victim ways xs = rw (length-map xs bare) (elim (tells (length xs == ways)) [
+bare_victim ways xs = rw (length-map xs bare) (elim (cases_Bool (length xs == ways)) [
   | inl full ↦ rw full (ap (option_map (λ x. x.block)) (bare_last None xs) ∙ block_of_last (last_or None xs))
   | inr room ↦ rw room refl
 ])
@@ -83,16 +84,6 @@ bare_change f g same (xs ∷ sets) (suc i) = ap (λ l. map bare xs ∷ l) (bare_
 bare_empty : (n : ℕ) → bare_sets (replicate n []) ≡ replicate n []
 bare_empty zero = refl
 bare_empty (suc n) = ap (λ l. [] ∷ l) (bare_empty n)
-
-length-change_at : {A : Type 0} (xs : List A) (i : ℕ) (f : A → A) → length (change_at xs i f) ≡ length xs
-length-change_at [] i f = refl
-length-change_at (x ∷ xs) zero f = refl
-length-change_at (x ∷ xs) (suc i) f = ap suc (length-change_at xs i f)
-
-at_changed : {A : Type 0} (lists : List (List A)) (i : ℕ) (f : List A → List A) → i < length lists → list_at (change_at lists i f) i ≡ f (list_at lists i)
-at_changed [] i f h = absurd (omega arith)
-at_changed (x ∷ xs) zero f h = refl
-at_changed (x ∷ xs) (suc i) f h = at_changed xs i f (omega arith)
 
 -- ---- the state
 
@@ -131,7 +122,7 @@ change_is m s c v b f g same is = record {
   sets = length-change_at v.sets (set_of v b) f ∙ is.sets;
   ways = is.ways;
   lines =
-      at_changed s.l1 c.0 (λ sets. change_at sets (l1_set_of m b) g) is.core
+      list_at-change_at_same s.l1 c.0 (λ sets. change_at sets (l1_set_of m b) g) is.core
       ∙ ap (λ sets. change_at sets (l1_set_of m b) g) is.lines
       ∙ ap (λ n. change_at (bare_sets v.sets) (b.0 % n) g) (sym is.sets)
       ∙ sym (bare_change f g same v.sets (set_of v b));

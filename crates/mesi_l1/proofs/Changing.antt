@@ -1,5 +1,5 @@
 -- What the calls make of the lines of a cache.
-use Rattle.std.proofs.Common.{◌≡◌, ◌⊎◌, ℕ, ◌%◌, ◌<◌, Bool, true, false, if◌then◌else◌, List, [], ◌∷◌, length, map, find, Option, Some, None, refl, sym, ◌∙◌, ap, inl, inr, arith}
+use Rattle.std.proofs.Common.{◌≡◌, ℕ, ◌%◌, ◌<◌, Bool, if◌then◌else◌, List, [], ◌∷◌, length, map, find, Option, Some, None, refl, sym, ◌∙◌, ap, inl, inr, arith}
 use Rattle.std.specs.Prelude.{slice_set}
 use Rattle.pei_types.specs.declared.identifiers.Block.{Block}
 use Rattle.pei_types.specs.declared.identifiers.BlockNo.{BlockNo}
@@ -13,6 +13,7 @@ use Rattle.mesi_l1.specs.Cache.{is_copy_of, with_set, with_touch, with_front, wi
 use Rattle.mesi_l1.specs.Inside.{line_at, cache_of, IsKept}
 use Rattle.mesi_l1.proofs.Looking.{set_is, tells_block}
 use Rattle.mesi_l1.proofs.Keeping.{set_same, set_other}
+use Rattle.std.proofs.lemmas.Bool.{cases_Bool}
 
 -- one set of what is held changes
 held_changes : SetsFollow CopyLine → (v : Placed) (lines : List CopyLine) (b : BlockNo) (set : ℕ) (sets : List (List CopyLine)) (slots : List (Option ℕ)) (change : List CopyLine → List CopyLine) → set ≡ b.0 % length v.lists
@@ -56,13 +57,9 @@ out_is laws v lines kept b set slot home within at =
 
 -- ---- a new line
 
-pub tells : (b : Bool) → (b ≡ true) ⊎ (b ≡ false)
-tells true = inl refl
-tells false = inr refl
-
 lacked : {A : Type 0} (test : A → Bool) (xs : List A) → find test xs ≡ None → without test xs ≡ xs
 lacked test [] absent = refl
-lacked test (x ∷ xs) absent = elim (tells (test x)) [
+lacked test (x ∷ xs) absent = elim (cases_Bool (test x)) [
   | inl passes ↦ let e : Some x ≡ None = rw passes at absent in cc e
   | inr fails ↦ rw fails (ap (λ l. x ∷ l) (lacked test xs (rw fails at absent)))
 ]

@@ -1,5 +1,5 @@
 -- Look-ups of blocks in the lines of a cache.
-use Rattle.std.proofs.Common.{◌≡◌, ℕ, zero, suc, ◌%◌, ◌<◌, true, false, true≢false, List, [], ◌∷◌, length, map, Option, Some, None, find, option_map, if◌then◌else◌, refl, sym, ◌∙◌, ap, subst, arith}
+use Rattle.std.proofs.Common.{◌≡◌, ℕ, ◌%◌, ◌<◌, true, false, true≢false, List, length, map, Option, Some, None, find, option_map, if◌then◌else◌, refl, sym, ◌∙◌, ap, subst, arith}
 use Rattle.std.specs.Prelude.{slice_index_or, IfSome, is_some}
 use Rattle.std.specs.List.{list_any}
 use Rattle.std.proofs.lemmas.List.{get_or_default}
@@ -27,10 +27,6 @@ pub copy_at : SetsFollow CopyLine → (v : Placed) (lines : List CopyLine) → I
 copy_at laws v lines kept b set slot home within at =
     ap (find (is_copy_of b)) (lines_are laws v lines b set home)
     ∙ (laws.follows v kept.placed set b.0 slot (line_at lines) (line_at lines) (is_copy_of b) within at (tells_block v lines kept b set) (λ s x here apart. refl)).found
-
-pub copy_absent : SetsFollow CopyLine → (v : Placed) (lines : List CopyLine) → IsKept v lines → (b : BlockNo) (set : ℕ) → set ≡ b.0 % length v.lists → find (has_key v.keys b.0) (list_at v.lists set) ≡ None → copy_of (cache_of v lines) b ≡ None
-copy_absent laws v lines kept b set home absent =
-    ap (find (is_copy_of b)) (lines_are laws v lines b set home) ∙ laws.absent v set b.0 (line_at lines) (is_copy_of b) (tells_block v lines kept b set) absent
 
 -- the line in the slot of a block is the block's
 pub block_at : (v : Placed) (lines : List CopyLine) → IsKept v lines → (b : BlockNo) (set slot : ℕ) → IsAt v set b.0 slot → (line_at lines slot).block ≡ b

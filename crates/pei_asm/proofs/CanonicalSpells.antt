@@ -14,11 +14,11 @@ use Rattle.pei_asm.specs.Canonical.{IsPrintable, ask_line, canonical, entry_line
 use Rattle.pei_asm.proofs.InstrLines.{IsSmall, aimed}
 use Rattle.pei_asm.proofs.Headers.{IsPlace, IsSmallAsk, IsWordsLine}
 use Rattle.pei_asm.proofs.Writing.{Writes, empty_line, meant_whole, read_whole, writes_both}
-use Rattle.pei_asm.proofs.Uses.{or_true}
 use Rattle.pei_asm.proofs.LabelPlaces.{AreAt, empty_at, header_at}
 use Rattle.pei_asm.proofs.WrittenParts.{Written, header_items, header_written, names_of, uses_both, uses_pass}
 use Rattle.pei_asm.proofs.WrittenInstrs.{HasPassingTarget, InstrsWritten, LastWritten, instrs_written, last_written}
 use Rattle.pei_asm.proofs.Reassembled.{cores_distinct, header_without_instr, listed_again}
+use Rattle.std.proofs.Math.Bool.{or-true}
 
 -- what each printable program meets
 pub record IsWritable (p : Listing) : Type 0 where
@@ -41,7 +41,7 @@ module _ (P : ℕ → Type 0) where
   each_named place [] h = tt
   each_named place (x ∷ xs) h = (
     by_place (place x) (λ k a. h k (ap (λ b. b || list_any (λ y. is_at k (place y)) xs) a)),
-    each_named place xs (λ k a. h k (ap (λ b. is_at k (place x) || b) a ∙ or_true (is_at k (place x)))),
+    each_named place xs (λ k a. h k (ap (λ b. is_at k (place x) || b) a ∙ or-true (is_at k (place x)))),
   )
 
 module _ (P Q R : ℕ → Type 0) (both : (k : ℕ) → P k → Q k → R k) where
@@ -145,7 +145,7 @@ module _ (p : Listing) (w : IsWritable p) where
   entry_named k h = ap (λ b. b || list_any (λ i. is_at k (target_of i)) p.instrs) h
 
   target_named : (k : ℕ) → list_any (λ i. is_at k (target_of i)) p.instrs ≡ true → is_named p k ≡ true
-  target_named k h = ap (λ b. list_any (is_at k) (p.common_entry ∷ p.own_entries) || b) h ∙ or_true (list_any (is_at k) (p.common_entry ∷ p.own_entries))
+  target_named k h = ap (λ b. list_any (is_at k) (p.common_entry ∷ p.own_entries) || b) h ∙ or-true (list_any (is_at k) (p.common_entry ∷ p.own_entries))
 
   entries_known : AllByRecursion (λ e. IfSome e Known) (p.common_entry ∷ p.own_entries)
   entries_known =

@@ -1,10 +1,10 @@
 -- A program that is built item by item is the one that its items list.
-use Rattle.std.proofs.Common.{◌≡◌, ℕ, ◌+◌, ◌<◌, ◌≤◌, ◌≢◌, nat_eq, Bool, true, false, ◌||◌, if◌then◌else◌, List, [], ◌∷◌, ◌++◌, map, fold, length, Option, Some, None, refl, sym, ap, ◌∙◌, append_assoc, arith}
+use Rattle.std.proofs.Common.{◌≡◌, ℕ, ◌<◌, ◌≢◌, nat_eq, Bool, true, false, ◌||◌, if◌then◌else◌, List, [], ◌∷◌, ◌++◌, map, fold, length, Option, Some, None, refl, sym, ap, ◌∙◌, append_assoc, arith}
 use Rattle.std.specs.Bool.{⊤}
 use Rattle.std.specs.Prelude.{filter_map, is_some, slice_get, slice_index_or, slice_set}
 use Rattle.std.specs.List.{AllByRecursion, cons_option, list_any, range_with_len}
 use Rattle.std.specs.Option.{option_or}
-use Rattle.std.proofs.lemmas.List.{append-nil, length-append, length-set, get_or-set_same, get_or-set_other}
+use Rattle.std.proofs.lemmas.List.{append-nil, length-set, get_or-set_same, get_or-set_other}
 use Rattle.std.proofs.lemmas.List.Elements.{filter_map-append}
 use Rattle.std.proofs.lemmas.List.Folds.{list_any-append}
 use Rattle.std.proofs.lemmas.List.FromFn.{fill_by_all, get_or-map-range_with_len}
@@ -15,14 +15,8 @@ use Rattle.pei_types.specs.Program.{Listing}
 use Rattle.pei_asm.specs.Mnemonics.{Item, instruction, entry, words, shown, statistics}
 use Rattle.pei_asm.specs.Spelling.{ask_in, entry_among, entry_in, instruction_in, is_statistics, listing_of, same_core, words_in}
 use Rattle.pei_asm.specs.Building.{with_common_entry, with_item, with_own_entry}
-
-or_none : {X : Type 0} (o : Option X) → option_or o None ≡ o
-or_none None = refl
-or_none (Some x) = refl
-
-or_false : (b : Bool) → (b || false) ≡ b
-or_false true = refl
-or_false false = refl
+use Rattle.std.proofs.Math.Bool.{or-false, or-true}
+use Rattle.pei_types.proofs.Tests.{option_or-None}
 
 -- ---- entries of single cores
 
@@ -72,11 +66,11 @@ own_entries_on f core pc h = fill_by_all (λ c. option_or (f c) (if same_core (S
     at : (k : ℕ) → k < 8 → (b : Bool) → is_some (slice_index_or old core None) ≡ b → (same : Bool) → nat_eq k core ≡ same
         → slice_index_or (if b then old else slice_set old core (Some pc)) k None ≡ option_or (f k) (if same then Some pc else None)
     at k less true e true q = here k less ∙ stays (f k) (Some pc) (ap is_some (sym (here k less) ∙ ap (λ n. slice_index_or old n None) (same_number k core q)) ∙ e)
-    at k less true e false q = here k less ∙ sym (or_none (f k))
+    at k less true e false q = here k less ∙ sym (option_or-None (f k))
     at k less false e true q =
         ap (λ n. slice_index_or (slice_set old core (Some pc)) n None) (same_number k core q) ∙ get_or-set_same old core (Some pc) None h
         ∙ comes (f k) (ap is_some (sym (here k less) ∙ ap (λ n. slice_index_or old n None) (same_number k core q)) ∙ e)
-    at k less false e false q = get_or-set_other old core k (Some pc) None (other k q) ∙ here k less ∙ sym (or_none (f k))
+    at k less false e false q = get_or-set_other old core k (Some pc) None (other k q) ∙ here k less ∙ sym (option_or-None (f k))
 
 -- ---- one item on
 
@@ -105,30 +99,26 @@ parts_on items x =
     (entry_snoc items x None) (list_any-append is_statistics items (x ∷ []))
 
 no_entry_on : (items : List Item) → map (λ c. option_or (entry_among items (Some c)) None) (range_with_len 0 8) ≡ map (λ c. entry_among items (Some c)) (range_with_len 0 8)
-no_entry_on items = same_map (λ c. option_or (entry_among items (Some c)) None) (λ c. entry_among items (Some c)) (λ c. or_none (entry_among items (Some c))) (range_with_len 0 8)
+no_entry_on items = same_map (λ c. option_or (entry_among items (Some c)) None) (λ c. entry_among items (Some c)) (λ c. option_or-None (entry_among items (Some c))) (range_with_len 0 8)
 
 common_on : (o : Option ℕ) (pc : ℕ) → option_or o (Some pc) ≡ with_common_entry o pc
 common_on None pc = refl
 common_on (Some x) pc = refl
 
-or_true : (b : Bool) → (b || true) ≡ true
-or_true true = refl
-or_true false = refl
-
 pub item_on_listing : (items : List Item) (x : Item) → HasCore x → listing_of (items ++ x ∷ []) ≡ with_item (listing_of items) x
 unfolding listing_with
 item_on_listing items (instruction i) h =
-    parts_on items (instruction i) ∙ alike refl (append-nil _) (append-nil _) (no_entry_on items) (or_none _) (or_false _)
+    parts_on items (instruction i) ∙ alike refl (append-nil _) (append-nil _) (no_entry_on items) (option_or-None _) (or-false _)
 item_on_listing items (entry (Some core) pc) h =
-    parts_on items (entry (Some core) pc) ∙ alike (append-nil _) (append-nil _) (append-nil _) (sym (own_entries_on (λ c. entry_among items (Some c)) core pc h)) (or_none _) (or_false _)
+    parts_on items (entry (Some core) pc) ∙ alike (append-nil _) (append-nil _) (append-nil _) (sym (own_entries_on (λ c. entry_among items (Some c)) core pc h)) (option_or-None _) (or-false _)
 item_on_listing items (entry None pc) h =
-    parts_on items (entry None pc) ∙ alike (append-nil _) (append-nil _) (append-nil _) (no_entry_on items) (common_on (entry_among items None) pc) (or_false _)
+    parts_on items (entry None pc) ∙ alike (append-nil _) (append-nil _) (append-nil _) (no_entry_on items) (common_on (entry_among items None) pc) (or-false _)
 item_on_listing items (words addr values) h =
-    parts_on items (words addr values) ∙ alike (append-nil _) refl (append-nil _) (no_entry_on items) (or_none _) (or_false _)
+    parts_on items (words addr values) ∙ alike (append-nil _) refl (append-nil _) (no_entry_on items) (option_or-None _) (or-false _)
 item_on_listing items (shown ask) h =
-    parts_on items (shown ask) ∙ alike (append-nil _) (append-nil _) refl (no_entry_on items) (or_none _) (or_false _)
+    parts_on items (shown ask) ∙ alike (append-nil _) (append-nil _) refl (no_entry_on items) (option_or-None _) (or-false _)
 item_on_listing items statistics h =
-    parts_on items statistics ∙ alike (append-nil _) (append-nil _) (append-nil _) (no_entry_on items) (or_none _) (or_true _)
+    parts_on items statistics ∙ alike (append-nil _) (append-nil _) (append-nil _) (no_entry_on items) (option_or-None _) (or-true _)
 
 -- ---- all items
 
@@ -150,12 +140,3 @@ instructions_on p (entry None pc ∷ items) = instructions_on (with_item p (entr
 instructions_on p (words addr values ∷ items) = instructions_on (with_item p (words addr values)) items
 instructions_on p (shown ask ∷ items) = instructions_on (with_item p (shown ask)) items
 instructions_on p (statistics ∷ items) = instructions_on (with_item p statistics) items
-
--- one item adds at most one line of words
-pub few_lines : (p : Listing) (x : Item) → length (with_item p x).lines ≤ length p.lines + 1
-few_lines p (instruction i) = omega arith
-few_lines p (entry (Some core) pc) = omega arith
-few_lines p (entry None pc) = omega arith
-few_lines p (words addr values) = omega (arith, length-append p.lines ((addr, values) ∷ []))
-few_lines p (shown ask) = omega arith
-few_lines p statistics = omega arith

@@ -12,7 +12,6 @@ pub mod CanonicalDirectives
 pub mod Writing
 pub mod Headers
 pub mod InstrParts
-pub mod Prefixes
 pub mod Digits
 pub mod Separated
 pub mod Lookups

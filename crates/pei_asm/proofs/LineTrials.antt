@@ -3,7 +3,7 @@ use Rattle.std.proofs.Common.{◌≡◌, ℕ, List, [], ◌∷◌, ◌++◌, Boo
 use Rattle.std.specs.Prelude.{is_none, find, IfSome}
 use Rattle.std.specs.Option.{option_or, option_and_then}
 use Rattle.std.specs.Str.{is_utf8}
-use Rattle.std.proofs.lemmas.Bool.{and_parts}
+use Rattle.std.proofs.lemmas.Bool.{and_parts, not-true}
 use Rattle.pei_asm.specs.declared.faults.AsmFault.{AsmFault}
 use Rattle.pei_asm.specs.declared.faults.AsmKind.TheVariants as kind
 use Rattle.pei_asm.specs.Tokens.{Token, name, number, comma, colon, star, stray, Placed, tokens_of}
@@ -13,7 +13,8 @@ use Rattle.pei_asm.specs.Spelling.{core_in, item_anywhere}
 use Rattle.pei_asm.specs.Faults.{Trial, column_if, column_where, fault_of_trials, first_column, has_entry, is_defined_before, is_one_too_many, line_fault, register_out_of_range}
 use Rattle.pei_asm.specs.Trials.{trials_of_front, trials_of_statement}
 use Rattle.pei_asm.proofs.LineVerdicts.{follows, may_stand, passes, line_verdict}
-use Rattle.pei_asm.proofs.TestFacts.{and_then_some, found_passes, map_some}
+use Rattle.pei_asm.proofs.TestFacts.{and_then_some, map_some}
+use Rattle.pei_types.proofs.Lists.{found_passes}
 
 -- ---- the trials in their order
 
@@ -106,13 +107,9 @@ may_follow : (earlier : List Line) (n : ℕ) (line : List ℕ) (l : Line) → li
 unfolding passes
 may_follow earlier n line l h m = sym (ap (passes earlier) m) ∙ passes_all earlier n line h
 
-no_of : (b : Bool) → not b ≡ true → b ≡ false
-no_of true h = absurd (cc h)
-no_of false h = refl
-
 pub label_is_new : (earlier : List Line) (n : ℕ) (line : List ℕ) (l : Line) → line_fault earlier n line ≡ None → meaning_of line ≡ Some l → is_defined_before earlier l.label ≡ false
 unfolding follows
-label_is_new earlier n line l h m = no_of _ (and_parts (not (is_defined_before earlier l.label)) (may_stand earlier l.statement) (may_follow earlier n line l h m)).0
+label_is_new earlier n line l h m = not-true _ (and_parts (not (is_defined_before earlier l.label)) (may_stand earlier l.statement) (may_follow earlier n line l h m)).0
 
 pub there_is_room : (earlier : List Line) (n : ℕ) (line : List ℕ) (l : Line) → line_fault earlier n line ≡ None → meaning_of line ≡ Some l → IfSome l.statement (λ s. is_one_too_many earlier s ≡ false)
 unfolding follows may_stand
@@ -120,7 +117,7 @@ there_is_room earlier n line l h m = by_statement l.statement (and_parts (not (i
   where
     by_statement : (o : Option Statement) → may_stand earlier o ≡ true → IfSome o (λ s. is_one_too_many earlier s ≡ false)
     by_statement None k = tt
-    by_statement (Some s) k = no_of _ (and_parts (not (is_one_too_many earlier s)) (not (has_entry earlier (core_in (item_anywhere s)))) k).0
+    by_statement (Some s) k = not-true _ (and_parts (not (is_one_too_many earlier s)) (not (has_entry earlier (core_in (item_anywhere s)))) k).0
 
 -- a line with a statement is in range, and has that statement
 pub statement_meant : (earlier : List Line) (n : ℕ) (line : List ℕ) (placed body : List Placed) (s : Statement) → placed ≡ tokens_of line → body ≡ body_of placed → Some s ≡ statement_in body

@@ -1,18 +1,19 @@
 -- A line has no fault exactly where it means something that may follow the earlier lines.
 use Rattle.std.proofs.lemmas.List.{take_all}
-use Rattle.std.proofs.Common.{◌≡◌, ℕ, zero, suc, take, ◌+◌, ◌≤◌, nat_lt, Bool, true, false, not, ◌&&◌, ◌||◌, if◌then◌else◌, List, [], ◌∷◌, length, Option, Some, None, refl, sym, ◌∙◌, ap, arith}
+use Rattle.std.proofs.Common.{◌≡◌, ℕ, zero, suc, take, ◌+◌, ◌≤◌, nat_lt, Bool, true, false, not, ◌&&◌, if◌then◌else◌, List, [], ◌∷◌, length, Option, Some, None, refl, sym, ◌∙◌, ap, arith}
 use Rattle.std.specs.Prelude.{find, is_none, option_map, drop, zip}
 use Rattle.std.specs.List.{list_any, list_all}
 use Rattle.std.specs.Option.{option_and_then}
 use Rattle.std.specs.Str.{is_utf8, chars}
 use Rattle.std.specs.Str.Lossy.{utf8_valid_len, valid_len_up_to}
-use Rattle.std.proofs.lemmas.Bool.{and_parts, lt-ltb, le-ltb}
+use Rattle.std.proofs.lemmas.Bool.{and_parts, lt-ltb, le-ltb, or_parts, or_from}
 use Rattle.pei_asm.specs.Tokens.{Token, name, number, comma, colon, star, stray, Placed, tokens_of}
 use Rattle.pei_asm.specs.Mnemonics.{Shape, register_below, any_number, amount, one_core, all_cores, place, suits, fits, fits_more, is_number_in_range, is_register_in_range, rows_named}
 use Rattle.pei_asm.specs.Statements.{Statement, Line, label_in, label_of, tokens_alone, body_of, behind_label, is_comma, separated, fits_row, statement_with, statement_named, is_in_range, line_with, line_from, line_of, meaning_of}
 use Rattle.pei_asm.specs.Spelling.{core_in, item_anywhere}
 use Rattle.pei_asm.specs.Faults.{Trial, fault_of_trials, trials, line_fault, column_if, column_where, is_stray, bad_char, is_defined_before, double_label, is_known, unknown_name, wrong_operands, number_too_large, register_out_of_range, register_range, is_one_too_many, too_many_instructions, has_entry, double_entry, not_utf8}
-use Rattle.pei_asm.proofs.TestFacts.{none_of_map, none_found, none_fails, found_passes, any_of_map, drop_two_of_map, and_then_some, map_some}
+use Rattle.pei_asm.proofs.TestFacts.{none_of_map, none_found, none_fails, any_of_map, drop_two_of_map, and_then_some, map_some}
+use Rattle.pei_types.proofs.Lists.{found_passes}
 
 -- ---- what may follow
 
@@ -47,15 +48,11 @@ not_stray s colon h = refl
 not_stray s star h = refl
 not_stray s stray h = absurd (cc (h, suits_stray s))
 
-neither : (a b : Bool) → a ≡ false → b ≡ false → (a || b) ≡ false
-neither true b h k = absurd (cc h)
-neither false b h k = k
-
 all_suit : (s : Shape) (ts : List Token) → list_all (suits s) ts ≡ true → list_any is_stray ts ≡ false
 all_suit s [] h = refl
 all_suit s (t ∷ ts) h =
     let parts = and_parts (suits s t) (list_all (suits s) ts) h
-    in neither (is_stray t) (list_any is_stray ts) (not_stray s t parts.0) (all_suit s ts parts.1)
+    in or_from (is_stray t) (list_any is_stray ts) (not_stray s t parts.0) (all_suit s ts parts.1)
 
 more_clean : (goes_on : Bool) (s : Shape) (ts : List Token) → fits_more goes_on s ts ≡ true → list_any is_stray ts ≡ false
 more_clean goes_on s [] h = refl
@@ -67,10 +64,10 @@ fits_clean goes_on [] (t ∷ ts) h = absurd (cc h)
 fits_clean goes_on (s ∷ shapes) [] h = refl
 fits_clean goes_on (s ∷ []) (t ∷ ts) h =
     let parts = and_parts (suits s t) (fits_more goes_on s ts) h
-    in neither (is_stray t) (list_any is_stray ts) (not_stray s t parts.0) (more_clean goes_on s ts parts.1)
+    in or_from (is_stray t) (list_any is_stray ts) (not_stray s t parts.0) (more_clean goes_on s ts parts.1)
 fits_clean goes_on (s ∷ s' ∷ shapes) (t ∷ ts) h =
     let parts = and_parts (suits s t) (fits goes_on (s' ∷ shapes) ts) h
-    in neither (is_stray t) (list_any is_stray ts) (not_stray s t parts.0) (fits_clean goes_on (s' ∷ shapes) ts parts.1)
+    in or_from (is_stray t) (list_any is_stray ts) (not_stray s t parts.0) (fits_clean goes_on (s' ∷ shapes) ts parts.1)
 
 comma_not_stray : (t : Token) → is_comma t ≡ true → is_stray t ≡ false
 comma_not_stray (name text) h = refl
@@ -79,10 +76,6 @@ comma_not_stray comma h = refl
 comma_not_stray colon h = refl
 comma_not_stray star h = refl
 comma_not_stray stray h = absurd (cc h)
-
-tail_clean : (a b : Bool) → (a || b) ≡ false → (a ≡ false) × (b ≡ false)
-tail_clean true b h = absurd (cc h)
-tail_clean false b h = (refl, h)
 
 separated_if : (b : Bool) (t : Placed) (o : Option (List Placed)) (operands : List Placed) → (if b then option_map (λ xs. t ∷ xs) o else None) ≡ Some operands
     → (xs : List Placed) × (b ≡ true) × (o ≡ Some xs) × (t ∷ xs ≡ operands)
@@ -95,9 +88,9 @@ separated_clean (t ∷ []) operands h clean = let same : t ∷ [] ≡ operands =
 separated_clean (t ∷ between ∷ []) operands h clean = absurd (cc h)
 separated_clean (t ∷ between ∷ u ∷ rest) operands h clean =
     let m = separated_if (is_comma between.token) t (separated (u ∷ rest)) operands h
-    in let parts = tail_clean (is_stray t.token) (list_any is_stray (tokens_alone m.0)) (ap (λ xs. list_any is_stray (tokens_alone xs)) m.3 ∙ clean)
-    in neither (is_stray t.token) _ parts.0
-    (neither (is_stray between.token) _ (comma_not_stray between.token m.1) (separated_clean (u ∷ rest) m.0 m.2 parts.1))
+    in let parts = or_parts (is_stray t.token) (list_any is_stray (tokens_alone m.0)) (ap (λ xs. list_any is_stray (tokens_alone xs)) m.3 ∙ clean)
+    in or_from (is_stray t.token) _ parts.0
+    (or_from (is_stray between.token) _ (comma_not_stray between.token m.1) (separated_clean (u ∷ rest) m.0 m.2 parts.1))
 
 label_clean : (ts : List Token) (text : List ℕ) → label_in ts ≡ Some text → list_any is_stray ts ≡ list_any is_stray (drop 2 ts)
 label_clean (name x ∷ colon ∷ rest) text h = refl

@@ -2,7 +2,6 @@
 use Rattle.std.proofs.lemmas.List.Elements.{recursion_from_All}
 use Rattle.std.proofs.Common.{◌≡◌, ℕ, ◌≤◌, List, [], ◌∷◌, length, arith}
 use Rattle.std.specs.Prelude.{All}
-use Rattle.std.specs.List.{AllByRecursion}
 use Rattle.pei_types.specs.declared.instructions.Ask.{Ask}
 use Rattle.pei_types.specs.declared.instructions.Ask.TheVariants as ask
 use Rattle.pei_types.specs.declared.instructions.Instr.{Instr}
@@ -14,10 +13,7 @@ use Rattle.pei_asm.specs.Spelling.{Spells}
 use Rattle.pei_asm.proofs.InstrLines.{IsSmall}
 use Rattle.pei_asm.proofs.Headers.{IsSmallAsk, IsWordsLine}
 use Rattle.pei_asm.proofs.CanonicalSpells.{canonical_spells}
-
-all_so : {X : Type 0} (P Q : X → Type 0) → ((x : X) → P x → Q x) → (xs : List X) → AllByRecursion P xs → AllByRecursion Q xs
-all_so P Q f [] h = tt
-all_so P Q f (x ∷ xs) h = (f x h.0, all_so P Q f xs h.1)
+use Rattle.pei_types.proofs.Lists.{each_weaker}
 
 small_instr : (i : Instr) → HasNumber i → IsSmall i
 small_instr (instr.Li rd n) h = h
@@ -67,9 +63,9 @@ spelled p printable eight few registers numbers lines asks =
     (record {
       printable = printable;
       registers = recursion_from_All HasRegisters p.instrs registers;
-      small = all_so HasNumber IsSmall small_instr p.instrs (recursion_from_All HasNumber p.instrs numbers);
+      small = each_weaker HasNumber IsSmall small_instr p.instrs (recursion_from_All HasNumber p.instrs numbers);
       few = few;
       eight = eight;
-      words = all_so IsLineOfNumbers IsWordsLine words_line_of p.lines (recursion_from_All IsLineOfNumbers p.lines lines);
-      asks = all_so HasNumbers IsSmallAsk small_ask p.asks (recursion_from_All HasNumbers p.asks asks);
+      words = each_weaker IsLineOfNumbers IsWordsLine words_line_of p.lines (recursion_from_All IsLineOfNumbers p.lines lines);
+      asks = each_weaker HasNumbers IsSmallAsk small_ask p.asks (recursion_from_All HasNumbers p.asks asks);
     })

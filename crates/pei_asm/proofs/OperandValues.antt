@@ -24,10 +24,6 @@ known_value : (o : Option ℕ) (a b : ℕ) → is_some o ≡ true → unwrap_or 
 known_value None a b h = absurd (cc h)
 known_value (Some n) a b h = refl
 
-no_value : (o : Option ℕ) (a : ℕ) → not (is_some o) ≡ true → unwrap_or o a ≡ a
-no_value None a h = refl
-no_value (Some n) a h = absurd (cc h)
-
 -- the number of a core is below 8
 core_below_eight : (places : List ℕ → ℕ) (negative : Bool) (n : ℕ) → (not (is_below_zero negative n) && nat_lt n 8) ≡ true → value_of places (number negative n) < 8
 core_below_eight places false n h = ltb-true n 8 (and_parts true (nat_lt n 8) h).1

@@ -15,10 +15,7 @@ use Rattle.std.proofs.lemmas.Bool.{lt-ltb, le-ltb, ltb-true, ltb-false}
 use Rattle.pei_asm.specs.Statements.{Line, Statement}
 use Rattle.pei_asm.specs.Spelling.{core_in, cores_given, defines, instruction_count, instruction_in, item_anywhere, items_anywhere, labels_defined, place_among, same_core}
 use Rattle.pei_asm.specs.Faults.{has_entry, is_defined_before, is_one_too_many}
-
-or_false : (b : Bool) → (b || false) ≡ b
-or_false true = refl
-or_false false = refl
+use Rattle.std.proofs.Math.Bool.{or-false}
 
 -- ---- the first that passes
 
@@ -132,7 +129,7 @@ entry_snoc ls l core =
   where
     by_item : (o : Option (Option ℕ)) → list_any (same_core core) (cons_option o []) ≡ option_map_or (same_core core) o false
     by_item None = refl
-    by_item (Some c) = or_false (same_core core c)
+    by_item (Some c) = or-false (same_core core c)
 
     by_statement : (o : Option Statement)
         → list_any (same_core core) (filter_map core_in (cons_option (option_map item_anywhere o) [])) ≡ option_map_or (same_core core) (option_and_then core_in (option_map item_anywhere o)) false

@@ -17,6 +17,7 @@ use Rattle.pei_asm.specs.Spelling.{Spells, core_in, instruction_in, item_anywher
 use Rattle.pei_asm.specs.Faults.{line_fault, first_line_fault, unknown_label, first_fault, has_entry, is_defined_before}
 use Rattle.pei_asm.proofs.TestFacts.{none_of_map, none_found, none_fails, none_of_either}
 use Rattle.pei_asm.proofs.LineVerdicts.{passes, follows, may_stand, line_verdict}
+use Rattle.pei_types.proofs.Tests.{none_is}
 
 -- ---- the lines in order
 
@@ -211,10 +212,6 @@ text_verdict text =
     ∙ ap (λ b. (list_all (λ l. is_some (meaning_of l)) (lines_of text)
     && (are_distinct bytes_eq (labels_defined (lines_read text)) && (nat_le (instruction_count (lines_read text)) 65536 && are_distinct same_core (cores_given (lines_read text))))) && b)
     (no_unknown (lines_read text) 1 (lines_read text))
-
-none_is : {A : Type 0} (o : Option A) → is_none o ≡ true → o ≡ None
-none_is None h = refl
-none_is (Some x) h = absurd (cc h)
 
 five : (a b c d e : Bool) → ((a && (b && (c && d))) && e) ≡ true → (a ≡ true) × (b ≡ true) × (c ≡ true) × (d ≡ true) × (e ≡ true)
 five a b c d e h =

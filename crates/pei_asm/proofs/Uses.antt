@@ -16,6 +16,7 @@ use Rattle.pei_asm.specs.Canonical.{instr_text, label, phrase, register, target_
 use Rattle.pei_asm.proofs.Phrases.{Reads, label_reads, phrase_reads, register_of-register, separated_commas, with_commas}
 use Rattle.pei_asm.proofs.InstrLines.{IsSmall, mnemonic_of, operands_of}
 use Rattle.pei_asm.proofs.CanonicalLines.{first_of, text_tokens}
+use Rattle.std.proofs.Math.Bool.{or-true}
 
 -- ---- the statement of a line, from its tokens
 
@@ -101,12 +102,8 @@ directive_uses q m ws ts s e read each h =
     (operands_are (tokens_of (phrase m ws)) m ts s (statement_meant (phrase m ws) (record { label = None; statement = Some s }) s e refl) (phrase_reads m ws ts read each 1))
     h
 
-pub or_true : (b : Bool) → (b || true) ≡ true
-or_true true = refl
-or_true false = refl
-
 pub label_passing : (q : List ℕ → Bool) (k : ℕ) → q (label k) ≡ true → label_passes q (name (label k)) ≡ true
-label_passing q k h = ap (λ b. not (is_label_token (name (label k))) || b) h ∙ or_true (not (is_label (label k)))
+label_passing q k h = ap (λ b. not (is_label_token (name (label k))) || b) h ∙ or-true (not (is_label (label k)))
 
 -- ---- instructions
 

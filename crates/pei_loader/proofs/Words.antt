@@ -7,6 +7,7 @@ use Rattle.std.proofs.lemmas.List.{get_or-set_same, get_or-set_other, length-set
 use Rattle.std.proofs.lemmas.List.Folds.{list_any-append}
 use Rattle.pei_types.specs.Image.{Given, OutOfRange, Overlap, word_in, words_from, word_refusal}
 use Rattle.pei_loader.specs.Filled.{Filled, marked_refusal}
+use Rattle.std.proofs.Math.Bool.{or-false, or-true}
 
 -- the words of a line with one more
 pub words_from-push : (a : ℕ) (xs : List ℕ) (w : ℕ) → words_from a (xs ++ w ∷ []) ≡ words_from a xs ++ (a + 8 * length xs, w) ∷ []
@@ -24,16 +25,12 @@ none_at_end a (x ∷ xs) n h =
     ap (λ b. b || list_any (λ (g : Given). g.0 == n) (words_from (a + 8) xs)) (not_equal a n (omega arith))
     ∙ none_at_end (a + 8) xs n (omega arith)
 
-or_false : (b : Bool) → (b || false) ≡ b
-or_false true = refl
-or_false false = refl
-
 -- the words of this line are not at the next address
 none_in_line : (e : List Given) (a : ℕ) (xs : List ℕ) (n : ℕ) → a + 8 * length xs ≤ n → list_any (λ (g : Given). g.0 == n) (e ++ words_from a xs) ≡ list_any (λ (g : Given). g.0 == n) e
 none_in_line e a xs n h =
     list_any-append (λ (g : Given). g.0 == n) e (words_from a xs)
     ∙ ap (λ b. list_any (λ (g : Given). g.0 == n) e || b) (none_at_end a xs n h)
-    ∙ or_false (list_any (λ (g : Given). g.0 == n) e)
+    ∙ or-false (list_any (λ (g : Given). g.0 == n) e)
 
 -- what the marks say of the next word of a line is what the earlier lines say
 pub marks_tell : (blocks : ℕ) (e : List Given) (a : ℕ) (xs : List ℕ) (words : List ℕ) (given : List Bool) (n : ℕ) → Filled blocks (e ++ words_from a xs) words given → a + 8 * length xs ≡ n → n % 8 ≡ 0 → marked_refusal blocks given n ≡ word_refusal blocks e n
@@ -62,11 +59,7 @@ find_push_other p [] g not_it = ap (λ b. cond b (Some g) None) not_it
 find_push_other p (x ∷ gs) g not_it = ap (λ o. cond (p x) (Some x) o) (find_push_other p gs g not_it)
 
 any_push : (p : Given → Bool) (gs : List Given) (g : Given) (b : Bool) → p g ≡ b → list_any p (gs ++ g ∷ []) ≡ (list_any p gs || b)
-any_push p gs g b e = list_any-append p gs (g ∷ []) ∙ ap (λ c. list_any p gs || c) (or_false (p g) ∙ e)
-
-or_true : (b : Bool) → (b || true) ≡ true
-or_true true = refl
-or_true false = refl
+any_push p gs g b e = list_any-append p gs (g ∷ []) ∙ ap (λ c. list_any p gs || c) (or-false (p g) ∙ e)
 
 -- One word more at a free place.
 pub place_more : (blocks : ℕ) (gs : List Given) (words : List ℕ) (given : List Bool) (n w : ℕ) → Filled blocks gs words given → n < 64 * blocks → n % 8 ≡ 0 → get_or given (n / 8) false ≡ false → Filled blocks (gs ++ (n, w) ∷ []) (set words (n / 8) w) (set given (n / 8) true)
@@ -113,13 +106,13 @@ place_more blocks gs words given n w filled inside aligned free =
     marked_here addr e =
         subst (λ (k : ℕ). get_or (set given (n / 8) true) (k / 8) false ≡ list_any (λ (g : Given). g.0 == k) (gs ++ (n, w) ∷ [])) (sym e)
         (get_or-set_same given (n / 8) true false (omega (arith, filled.marks, within))
-        ∙ sym (any_push (λ g. g.0 == n) gs (n, w) true (same n n refl) ∙ or_true (list_any (λ (g : Given). g.0 == n) gs)))
+        ∙ sym (any_push (λ g. g.0 == n) gs (n, w) true (same n n refl) ∙ or-true (list_any (λ (g : Given). g.0 == n) gs)))
 
     marked_elsewhere : (addr : ℕ) → addr < 64 * blocks → addr % 8 ≡ 0 → addr ≢ n → get_or (set given (n / 8) true) (addr / 8) false ≡ list_any (λ (g : Given). g.0 == addr) (gs ++ (n, w) ∷ [])
     marked_elsewhere addr low whole differs =
         get_or-set_other given (n / 8) (addr / 8) true false (elsewhere addr whole differs)
         ∙ filled.marked addr low whole
-        ∙ sym (any_push (λ g. g.0 == addr) gs (n, w) false (other n addr (λ e. differs (sym e))) ∙ or_false (list_any (λ (g : Given). g.0 == addr) gs))
+        ∙ sym (any_push (λ g. g.0 == addr) gs (n, w) false (other n addr (λ e. differs (sym e))) ∙ or-false (list_any (λ (g : Given). g.0 == addr) gs))
 
     marked : (addr : ℕ) → addr < 64 * blocks → addr % 8 ≡ 0 → get_or (set given (n / 8) true) (addr / 8) false ≡ list_any (λ (g : Given). g.0 == addr) (gs ++ (n, w) ∷ [])
     marked addr low whole =

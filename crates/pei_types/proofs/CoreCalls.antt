@@ -1,5 +1,5 @@
 -- A core asks only for what the machine can serve.
-use Rattle.std.proofs.Common.{◌≡◌, ℕ, ◌+◌, ◌*◌, ◌/◌, ◌%◌, ◌<◌, ◌≤◌, Bool, true, false, ◌&&◌, ◌==◌, nat_lt, if◌then◌else◌, List, slice_set, replicate, slice_index, Option, Some, None, refl, sym, ◌∙◌, ap, subst, arith, rules}
+use Rattle.std.proofs.Common.{◌≡◌, ℕ, ◌+◌, ◌*◌, ◌/◌, ◌%◌, ◌<◌, ◌≤◌, Bool, true, false, ◌&&◌, ◌==◌, nat_lt, if◌then◌else◌, List, slice_set, replicate, slice_index, Option, Some, None, refl, subst, arith}
 use Rattle.std.proofs.lemmas.Bool.Decides.{nat_tests}
 use Rattle.pei_types.specs.declared.instructions.Instr.{Instr}
 use Rattle.pei_types.specs.declared.instructions.Instr.TheVariants as instr
@@ -12,8 +12,9 @@ use Rattle.pei_types.specs.declared.calls.TrapCause.TheVariants as cause
 use Rattle.pei_types.specs.declared.operations.Op.TheVariants as op
 use Rattle.pei_types.specs.Calls.{CallFits}
 use Rattle.pei_types.specs.Blocks.{word_of}
-use Rattle.pei_types.specs.Core.{CoreState, CoreStep, Retires, Stops, CoreNext, Calls, Busy, Effect, Goes, Asks, core_step, step_unless_over, step_at, step_unless_busy, step_of_effect, asks_unless, branch, at_stop, next_of, next_of_step, effect_of, operand_trap, shift_trap, busy_register, pei_call, low_64_bits}
+use Rattle.pei_types.specs.Core.{CoreState, Stops, Calls, step_unless_over, step_at, step_unless_busy, step_of_effect, asks_unless, branch, at_stop, next_of, next_of_step, effect_of, operand_trap, shift_trap, busy_register, pei_call, low_64_bits}
 use Rattle.pei_types.specs.Program.{Listing, instr_at}
+use Rattle.std.proofs.lemmas.Bool.{ltb-true}
 
 -- what a core does is a call
 calls_is : (x y : Call) → Calls x ≡ Calls y → x ≡ y
@@ -44,11 +45,8 @@ traps_or blocks pc s whole_block shift addr x y fits h = by (operand_trap whole_
 word_fits : (blocks addr : ℕ) → Fitting false None addr blocks → ((addr % 8 == 0) && nat_lt addr (64 * blocks)) ≡ true
 word_fits blocks addr h = rw (h.aligned, h.inside) refl
 
-less_of : (a b : ℕ) → nat_lt a b ≡ true → a < b
-less_of a b h = search rules
-
 block_fits : (whole_block : Bool) (shift : Option ℕ) (blocks addr : ℕ) → Fitting whole_block shift addr blocks → addr / 64 < blocks
-block_fits whole_block shift blocks addr h = let inside = less_of addr (64 * blocks) h.inside in omega (arith, inside)
+block_fits whole_block shift blocks addr h = let inside = ltb-true addr (64 * blocks) h.inside in omega (arith, inside)
 
 no_shift : (n : ℕ) → shift_trap (Some n) ≡ None → n ≤ 24
 no_shift n h = by (nat_lt 24 n) refl h

@@ -1,11 +1,12 @@
 -- A core that has run to its stop is there.
-use Rattle.std.proofs.Common.{◌≡◌, ℕ, zero, suc, ◌+◌, ◌-◌, ◌<◌, Bool, true, false, nat_lt, if◌then◌else◌, Option, Some, None, refl, sym, ◌∙◌, ap, arith, rules}
+use Rattle.std.proofs.Common.{◌≡◌, ℕ, zero, suc, ◌+◌, ◌-◌, ◌<◌, Bool, true, false, nat_lt, if◌then◌else◌, Option, Some, None, refl, sym, ◌∙◌, ap, arith}
 use Rattle.pei_types.specs.declared.calls.EndKind.{EndKind}
 use Rattle.pei_types.specs.declared.calls.EndKind.TheVariants as ends
 use Rattle.pei_types.specs.declared.calls.Call.TheVariants as call
 use Rattle.pei_types.specs.declared.instructions.Instr.{Instr}
 use Rattle.pei_types.specs.Core.{CoreState, CoreStep, Retires, Stops, CoreNext, Calls, Effect, Goes, Asks, core_step, step_unless_over, step_at, step_unless_busy, step_of_effect, after_steps, at_stop, effect_of, busy_register}
 use Rattle.pei_types.specs.Program.{Listing, instr_at}
+use Rattle.std.proofs.lemmas.Bool.{ltb-true}
 
 retired_or : ℕ → CoreStep → ℕ
 retired_or n (Retires s) = s.retired
@@ -24,11 +25,8 @@ by_instr : (blocks : ℕ) (s t : CoreState) (o : Option Instr) → step_at block
 by_instr blocks s t None h = absurd (cc h)
 by_instr blocks s t (Some i) h = by_busy blocks s t i (busy_register s.waits i) h
 
-less_of : (a b : ℕ) → nat_lt a b ≡ true → a < b
-less_of a b h = search rules
-
 by_fuel : (p : Listing) (fuel blocks : ℕ) (s t : CoreState) (b : Bool) → nat_lt s.retired fuel ≡ b → (if b then step_at blocks s (instr_at p s.pc) else Stops (Calls (call.End ends.Fuel))) ≡ Retires t → (t.retired ≡ s.retired + 1) × (s.retired < fuel)
-by_fuel p fuel blocks s t true q h = (by_instr blocks s t (instr_at p s.pc) h, less_of s.retired fuel q)
+by_fuel p fuel blocks s t true q h = (by_instr blocks s t (instr_at p s.pc) h, ltb-true s.retired fuel q)
 by_fuel p fuel blocks s t false q h = absurd (cc h)
 
 by_end : (p : Listing) (fuel blocks : ℕ) (s t : CoreState) (ended raced : Option EndKind) → step_unless_over p fuel blocks s ended raced ≡ Retires t → (t.retired ≡ s.retired + 1) × (s.retired < fuel)

@@ -1,5 +1,5 @@
 -- The rows of loads and stores.
-use Rattle.std.proofs.Common.{◌≡◌, ℕ, Bool, true, false, not, if◌then◌else◌, Option, Some, None, refl, sym, ◌∙◌, ap}
+use Rattle.std.proofs.Common.{◌≡◌, ℕ, Bool, true, false, if◌then◌else◌, Option, Some, None, refl, sym, ◌∙◌, ap}
 use Rattle.std.specs.Prelude.{slice_index}
 use Rattle.pei_types.specs.declared.identifiers.Block.{Block}
 use Rattle.pei_types.specs.declared.identifiers.BlockNo.{BlockNo}
@@ -16,6 +16,7 @@ use Rattle.pmu_dispatch.specs.declared.accesses.AccessNext.TheVariants as access
 use Rattle.pmu_dispatch.specs.Shown.{AreLooksOf, suffices}
 use Rattle.pmu_dispatch.specs.Steps.{IsAccessRow, is_message, message_made}
 use Rattle.pmu_dispatch.proofs.Messages.{message_want}
+use Rattle.std.proofs.lemmas.Bool.{not-false, not-true}
 
 -- the rows of a load and of a store, where the block is the one of the address
 load_at : MachineSpec → State → (BlockNo → Block) → CoreId → ℕ → ℕ → BlockNo → EventKind
@@ -25,14 +26,6 @@ load_at m s content c pc addr b =
 store_at : MachineSpec → State → CoreId → ℕ → ℕ → ℕ → BlockNo → EventKind
 store_at m s c pc addr value b =
     race_or (conflict s b true) pc b (if is_owned (letter_of m s c b) then event.Store addr value else want m s c b true)
-
-is_readable : (b : Bool) → not b ≡ true → b ≡ false
-is_readable true h = absurd (cc h)
-is_readable false h = refl
-
-is_lost : (b : Bool) → not b ≡ false → b ≡ true
-is_lost true h = refl
-is_lost false h = absurd (cc h)
 
 -- an access that races
 pub race_row : (store : Bool) (looks : WantLooks) (found : Option PeiId) (by : PeiId) → found ≡ Some by → IsAccessRow store looks found (access.Race by)
@@ -54,7 +47,7 @@ unfolding load_at store_at
 hit_row false looks found none enough =
     λ m s content pc addr taken same at.
     let races : conflict s looks.block false ≡ None = sym same ∙ none
-    in let here : is_i (letter_of m s looks.own looks.block) ≡ false = is_readable (is_i (letter_of m s looks.own looks.block)) (enough m s taken)
+    in let here : is_i (letter_of m s looks.own looks.block) ≡ false = not-true (is_i (letter_of m s looks.own looks.block)) (enough m s taken)
     in let row : load_at m s content looks.own pc addr looks.block ≡ event.Load addr (slice_index (content looks.block).0 (word_of addr)) = rw (races, here) refl
     in ap (λ (kind : EventKind). Some (Makes kind)) (sym row ∙ ap (load_at m s content looks.own pc addr) (sym at))
 hit_row true looks found none enough =
@@ -75,7 +68,7 @@ unfolding load_at store_at
 message_row false looks found kind none lacks wants =
     λ m s content pc addr taken same at.
     let races : conflict s looks.block false ≡ None = sym same ∙ none
-    in let lost : is_i (letter_of m s looks.own looks.block) ≡ true = is_lost (is_i (letter_of m s looks.own looks.block)) (lacks m s taken)
+    in let lost : is_i (letter_of m s looks.own looks.block) ≡ true = not-false (is_i (letter_of m s looks.own looks.block)) (lacks m s taken)
     in let row : load_at m s content looks.own pc addr looks.block ≡ want m s looks.own looks.block false = rw (races, lost) refl
     in message_is_made kind (want m s looks.own looks.block false) (wants m s taken) (message_want m s looks.own looks.block false)
     ∙ ap (λ (kind : EventKind). Some (Makes kind)) (sym row ∙ ap (load_at m s content looks.own pc addr) (sym at))

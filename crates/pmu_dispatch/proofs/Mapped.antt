@@ -4,7 +4,3 @@ use Rattle.std.proofs.Common.{◌≡◌, Option, Some, None, option_map, refl}
 pub some_mapped : {A B : Type 0} (f : A → B) (o : Option A) (b : B) → option_map f o ≡ Some b → (a : A) × (o ≡ Some a) × (b ≡ f a)
 some_mapped f None b h = absurd (cc h)
 some_mapped f (Some a) b h = (a, refl, cc h)
-
-pub none_mapped : {A B : Type 0} (f : A → B) (o : Option A) → option_map f o ≡ None → o ≡ None
-none_mapped f None h = refl
-none_mapped f (Some a) h = absurd (cc h)

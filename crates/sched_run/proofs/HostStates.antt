@@ -72,10 +72,6 @@ host_next m s a (event.Act seq reply) h =
 host_next m s a (event.Leave seq) h = refl
 host_next m s a _ h = absurd (cc h)
 
--- what each event of a PEI does to it
-pub host_enters : (m : MachineSpec) (s : State) (a : Actor) (seq : ℕ) → host_state (next_state m s a (event.Enter seq)) ≡ host_state (in_phase s (pei_id a seq) phase.Entered)
-host_enters m s a seq = refl
-
 pub host_places : (m : MachineSpec) (s : State) (a : Actor) (seq : ℕ) → host_state (next_state m s a (event.Place seq place.Host)) ≡ host_state (in_phase s (pei_id a seq) phase.HostPlaced)
 host_places m s a seq = placed m s (look_of s (pei_id a seq)) (pei_id a seq) phase.HostPlaced
 

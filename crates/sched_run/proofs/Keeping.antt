@@ -1,8 +1,7 @@
 -- The plain machine keeps its invariant when a PEI is issued, moves on or leaves.
-use Rattle.std.proofs.Common.{◌≡◌, ℕ, zero, suc, ◌+◌, ◌≤◌, Bool, true, false, not, ◌&&◌, ◌==◌, if◌then◌else◌, List, [], ◌∷◌, ◌++◌, map, filter, length, slice_index, find, Option, Some, None, is_some, slice_get, Vec, Global, vec_len, refl, sym, ◌∙◌, ap, subst, arith, cond, length-append}
+use Rattle.std.proofs.Common.{◌≡◌, ℕ, zero, suc, ◌+◌, ◌≤◌, Bool, true, false, not, ◌&&◌, if◌then◌else◌, List, [], ◌∷◌, ◌++◌, map, filter, length, slice_index, find, Option, Some, None, is_some, slice_get, Vec, Global, vec_len, refl, sym, ◌∙◌, ap, subst, arith, cond, length-append}
 use Rattle.std.specs.List.{AllByRecursion}
 use Rattle.std.specs.Option.{option_map_or}
-use Rattle.std.proofs.lemmas.Bool.Decides.{nat_tests}
 use Rattle.pei_types.specs.declared.identifiers.Block.{Block}
 use Rattle.pei_types.specs.declared.identifiers.BlockNo.{BlockNo}
 use Rattle.pei_types.specs.declared.identifiers.CoreId.{CoreId}
@@ -23,6 +22,8 @@ use Rattle.inflight.specs.OnTheWay.{OnTheWay, after_issuing, lane_in_phase, with
 use Rattle.journal.specs.Recorded.{Recorded}
 use Rattle.sched_run.specs.Kept.{CanAct, IsKept}
 use Rattle.sched_run.specs.declared.plain.Plain.TheInside.{Inside}
+use Rattle.std.proofs.lemmas.Bool.{and_parts, eqb-true}
+use Rattle.std.proofs.lemmas.Option.{same_Some}
 
 -- ---- PEIs that can act
 
@@ -46,16 +47,13 @@ acts_filter blocks test (p ∷ ps) h = by (test p) (acts_filter blocks test ps h
     by true rest = (h.0, rest)
     by false rest = rest
 
-some_is : (p q : PeiLook) → Some p ≡ Some q → p ≡ q
-some_is p q e = cc
-
 -- what is found can act, and passes the test
 found_acts : (blocks : ℕ) (test : PeiLook → Bool) (ps : List PeiLook) (p : PeiLook) → find test ps ≡ Some p → AllByRecursion (CanAct blocks) ps → CanAct blocks p × (test p ≡ true)
 found_acts blocks test [] p e h = absurd (cc e)
 found_acts blocks test (q ∷ ps) p e h = by (test q) refl e (λ k. found_acts blocks test ps p k h.1)
   where
     by : (b : Bool) → test q ≡ b → cond b (Some q) (find test ps) ≡ Some p → (find test ps ≡ Some p → CanAct blocks p × (test p ≡ true)) → CanAct blocks p × (test p ≡ true)
-    by true t k rest = let same = some_is q p k in (subst (CanAct blocks) same h.0, ap test (sym same) ∙ t)
+    by true t k rest = let same = same_Some q p k in (subst (CanAct blocks) same h.0, ap test (sym same) ∙ t)
     by false t k rest = rest k
 
 pub look_acts : (blocks : ℕ) (s : State) (c : CoreId) (l : Lane) (p : PeiLook) → look_in s c l ≡ Some p → AllByRecursion (CanAct blocks) s.peis → CanAct blocks p
@@ -68,25 +66,13 @@ found_passes test [] p e = absurd (cc e)
 found_passes test (q ∷ ps) p e = by (test q) refl e (found_passes test ps p)
   where
     by : (b : Bool) → test q ≡ b → cond b (Some q) (find test ps) ≡ Some p → (find test ps ≡ Some p → test p ≡ true) → test p ≡ true
-    by true t k rest = ap test (sym (some_is q p k)) ∙ t
+    by true t k rest = ap test (sym (same_Some q p k)) ∙ t
     by false t k rest = rest k
-
-both : (a b : Bool) → (a && b) ≡ true → (a ≡ true) × (b ≡ true)
-both true b h = (refl, h)
-both false b h = absurd (cc h)
-
-number_is : (a b : ℕ) → (a == b) ≡ true → a ≡ b
-number_is a b h = grind (arith, nat_tests)
-
-pub look_core : (s : State) (c : CoreId) (l : Lane) (p : PeiLook) → look_in s c l ≡ Some p → p.id.core ≡ c
-look_core s c l p e =
-    let t = found_passes (λ q. same_core q.id.core c && same_lane q.lane l) s.peis p e
-    in ap (λ n. record { 0 = n }) (number_is p.id.core.0 c.0 (both _ _ t).0)
 
 pub look_lane : (s : State) (c : CoreId) (l : Lane) (p : PeiLook) → look_in s c l ≡ Some p → p.lane ≡ l
 look_lane s c l p e =
     let t = found_passes (λ q. same_core q.id.core c && same_lane q.lane l) s.peis p e
-    in ap (λ n. record { 0 = n }) (number_is p.lane.0 l.0 (both _ _ t).1)
+    in ap (λ n. record { 0 = n }) (eqb-true p.lane.0 l.0 (and_parts _ _ t).1)
 
 -- the state after the PEI in a lane comes to a phase, or leaves
 pub phase_is : (s : State) (c : CoreId) (l : Lane) (p : PeiLook) (ph : Phase) → look_in s c l ≡ Some p → lane_in_phase s c l ph ≡ in_phase s p.id ph

@@ -12,7 +12,8 @@ use Rattle.sched_run.specs.Lanes.{HoldsIn, lane_of}
 use Rattle.sched_run.specs.PlainMachine.{Playing}
 use Rattle.sched_run.specs.Turning.{Went}
 use Rattle.sched_run.specs.declared.turns.Turn.{Turn}
-use Rattle.sched_run.proofs.Keeping.{look_core, look_lane}
+use Rattle.sched_run.proofs.Keeping.{look_lane}
+use Rattle.pei_types.proofs.Identities.{look_core}
 
 -- it is held there, in its phase
 pub holds_in : (v : Playing) (c : CoreId) (l : Lane) (p : PeiLook) (ph : Phase) → IsLaneOf v.machine c l → look_in v.state c l ≡ Some p → p.phase ≡ ph → HoldsIn v p ph

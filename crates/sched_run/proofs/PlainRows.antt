@@ -1,5 +1,5 @@
 -- Rows of the plain machine: they look at PEIs and at the blocks of memory alone, and no event of theirs is of caches.
-use Rattle.std.proofs.Common.{◌≡◌, ℕ, ◌<◌, ◌/◌, ◌*◌, ◌%◌, Bool, true, false, not, ◌&&◌, ◌==◌, nat_lt, List, [], ◌∷◌, if◌then◌else◌, Option, Some, None, slice_index, refl, sym, ◌∙◌, ap, arith, rules}
+use Rattle.std.proofs.Common.{◌≡◌, ℕ, ◌<◌, ◌/◌, ◌*◌, ◌%◌, Bool, true, false, not, ◌&&◌, ◌==◌, nat_lt, List, [], ◌∷◌, if◌then◌else◌, Option, Some, None, slice_index, refl, sym, ◌∙◌, ap, arith}
 use Rattle.std.specs.Option.{IfSome}
 use Rattle.pei_types.specs.declared.identifiers.Block.{Block}
 use Rattle.pei_types.specs.declared.identifiers.BlockNo.{BlockNo}
@@ -24,13 +24,12 @@ use Rattle.pei_types.specs.Operation.{reply_of}
 use Rattle.pei_types.specs.Schedule.{plain_call, plain_pei, plain_lane}
 use Rattle.sched_run.specs.PlainMachine.{host_state}
 use Rattle.sched_run.proofs.HostStates.{is_of_caches}
+use Rattle.std.proofs.lemmas.Bool.{ltb-true}
+use Rattle.pei_types.proofs.Identities.{makes_is}
 
 -- contents that agree on the blocks of memory
 abbrev pub Agree : ℕ → (BlockNo → Block) → (BlockNo → Block) → Type 0
 Agree blocks f g = (b : BlockNo) → b.0 < blocks → f b ≡ g b
-
-below : (a b : ℕ) → nat_lt a b ≡ true → a < b
-below a b h = search rules
 
 right_part : (a b : Bool) → (a && b) ≡ true → b ≡ true
 right_part true b h = h
@@ -38,7 +37,7 @@ right_part false b h = absurd (cc h)
 
 -- an address of memory is in a block of memory
 pub block_inside : (blocks addr : ℕ) → ((addr % 8 == 0) && nat_lt addr (64 * blocks)) ≡ true → addr / 64 < blocks
-block_inside blocks addr h = let inside = below addr (64 * blocks) (right_part _ _ h) in omega (arith, inside)
+block_inside blocks addr h = let inside = ltb-true addr (64 * blocks) (right_part _ _ h) in omega (arith, inside)
 
 -- The row of a call is the same on what the plain machine has of the state, with the same blocks.
 pub call_same : (m : MachineSpec) (s : State) (f g : BlockNo → Block) (c : CoreId) (x : Call) → CallFits m.blocks x → Agree m.blocks f g → plain_call m (host_state s) f c x ≡ plain_call m s g c x
@@ -67,11 +66,8 @@ lane_same m s f g (Some p) inside same = pei_same m s f g p p.phase inside same
 
 -- ---- what kinds of events they are
 
-kind_is : (k l : EventKind) → Makes k ≡ Makes l → k ≡ l
-kind_is k l e = cc
-
 quiet : (k l : EventKind) → Makes k ≡ Makes l → is_of_caches k ≡ false → is_of_caches l ≡ false
-quiet k l e h = ap is_of_caches (sym (kind_is k l e)) ∙ h
+quiet k l e h = ap is_of_caches (sym (makes_is k l e)) ∙ h
 
 -- an event of a core's program
 abbrev pub is_of_program : EventKind → Bool
@@ -86,7 +82,7 @@ is_of_program (event.End how) = true
 is_of_program _ = false
 
 programs : (k l : EventKind) → Makes k ≡ Makes l → is_of_program k ≡ true → is_of_program l ≡ true
-programs k l e h = ap is_of_program (sym (kind_is k l e)) ∙ h
+programs k l e h = ap is_of_program (sym (makes_is k l e)) ∙ h
 
 race_programs : (o : Option PeiId) (pc : ℕ) (b : BlockNo) (k l : EventKind) → is_of_program k ≡ true → Makes (race_or o pc b k) ≡ Makes l → is_of_program l ≡ true
 race_programs None pc b k l h e = programs k l e h

@@ -2,7 +2,6 @@
 use Rattle.std.proofs.Common.{◌≡◌, ℕ, ◌+◌, ◌*◌, ◌<◌, ◌≤◌, Bool, true, false, if◌then◌else◌, List, [], ◌∷◌, ◌++◌, length, Option, Some, refl, sym, ◌∙◌, ap, arith, length-append, length-drop}
 use Rattle.std.proofs.Math.ListN.{length-set}
 use Rattle.std.proofs.lemmas.List.{length-take-le}
-use Rattle.std.proofs.lemmas.Bool.Decides.{nat_tests}
 use Rattle.pei_types.specs.declared.identifiers.Actor.{Actor}
 use Rattle.pei_types.specs.declared.identifiers.Block.{Block}
 use Rattle.pei_types.specs.declared.identifiers.BlockNo.{BlockNo}
@@ -26,6 +25,7 @@ use Rattle.sched_run.specs.PlainMachine.{Playing, host_state, block_in, with_blo
 use Rattle.sched_run.specs.Tracking.{PlainTracks}
 use Rattle.sched_run.proofs.Blocks.{block_after_store, block_after_act, length_of_eight}
 use Rattle.sched_run.proofs.HostStates.{is_of_caches, host_next}
+use Rattle.pei_types.proofs.Identities.{same_block_is}
 
 -- What an act needs: the PEI in the lane, which history finds under the act's name, on a block of memory.
 abbrev pub ActsRightly : MachineSpec → List Event → Playing → Actor → EventKind → Type 0
@@ -44,11 +44,8 @@ block_length op.Dot operands b = refl
 inside : (words blocks b : ℕ) → words ≡ 8 * blocks → b < blocks → 8 * b + 8 ≤ words
 inside words blocks b e h = omega (arith, e, h)
 
-block_is : (b c : BlockNo) → same_block b c ≡ true → b ≡ c
-block_is b c h = let same : b.0 ≡ c.0 = grind (arith, nat_tests) in ap (λ n. record { 0 = n }) same
-
 after_this : (f : BlockNo → Block) (g : BlockNo → Block) (p : PeiLook) (b : BlockNo) (here : Bool) → same_block p.block b ≡ here → f b ≡ g b → (if here then block_after p.op p.operands (f p.block) else f b) ≡ (if here then block_after p.op p.operands (g b) else g b)
-after_this f g p b true e same = ap (λ c. block_after p.op p.operands (f c)) (block_is p.block b e) ∙ ap (block_after p.op p.operands) same
+after_this f g p b true e same = ap (λ c. block_after p.op p.operands (f c)) (same_block_is p.block b e) ∙ ap (block_after p.op p.operands) same
 after_this f g p b false e same = same
 
 -- each block after an act

@@ -23,9 +23,9 @@ use Rattle.sched_run.specs.PlainMachine.{Playing, block_in}
 use Rattle.sched_run.specs.Tracking.{PlainTracks}
 use Rattle.sched_run.specs.Turning.{program_row, row_of_lane, actor_row}
 use Rattle.sched_run.proofs.HostStates.{is_of_caches}
-use Rattle.sched_run.proofs.Keeping.{look_core}
 use Rattle.sched_run.proofs.PlainRows.{call_same, lane_same, is_of_program, call_programs, programs_quiet, lane_quiet, lane_acts}
 use Rattle.sched_run.proofs.PlainTracking.{ActsRightly}
+use Rattle.pei_types.proofs.Identities.{look_core}
 
 -- the same row, where the machine is where the journal leaves it
 call_row_same : (m : MachineSpec) (image : Contents) (journal : List Event) (v : Playing) (c : CoreId) (x : Call) → PlainTracks m image journal v → CallFits m.blocks x → plain_call v.machine v.state (block_in v.words) c x ≡ plain_call m (state_after m journal) (flat_block image journal) c x

@@ -1,5 +1,5 @@
 -- The run follows the run of the definitions, turn by turn.
-use Rattle.std.proofs.Common.{◌≡◌, ℕ, zero, suc, ◌+◌, ◌<◌, ◌==◌, Bool, true, false, ◌&&◌, IsTrue, nat_lt, nat_le, ◌*◌, replicate, List, [], ◌∷◌, ◌++◌, find, length, slice_set, slice_get, Option, Some, None, refl, sym, ◌∙◌, ap, subst, arith, rules, cond}
+use Rattle.std.proofs.Common.{◌≡◌, ℕ, zero, suc, ◌+◌, ◌<◌, ◌==◌, Bool, true, false, ◌&&◌, IsTrue, ◌*◌, replicate, List, [], ◌∷◌, ◌++◌, find, length, slice_set, slice_get, Option, Some, None, refl, sym, ◌∙◌, ap, subst, arith, cond}
 use Rattle.std.specs.List.{AllByRecursion}
 use Rattle.std.proofs.lemmas.Bool.Decides.{nat_tests}
 use Rattle.pei_types.specs.declared.identifiers.Actor.{Actor}
@@ -29,6 +29,8 @@ use Rattle.sched_run.proofs.CoreTracking.{next_same, own_next, other_next}
 use Rattle.sched_run.proofs.EndsTracking.{ends_next}
 use Rattle.sched_run.proofs.PlainTracking.{plain_next}
 use Rattle.sched_run.proofs.Rows.{LaneInside, turn_is, row_quiet, acts_rightly}
+use Rattle.pei_types.proofs.Tests.{same_self}
+use Rattle.pei_types.proofs.Identities.{core_within}
 
 -- ---- elements of a list
 
@@ -52,16 +54,6 @@ get_set_other (x ∷ xs) (suc i) (suc j) t h = get_set_other xs i j t (step_apar
 
 -- ---- an actor of the machine
 
-both : (a b : Bool) → (a && b) ≡ true → (a ≡ true) × (b ≡ true)
-both true b h = (refl, h)
-both false b h = absurd (cc h)
-
-core_within : (m : MachineSpec) (a : Actor) → IsTrue (is_actor_of m a) → a.core.0 < m.cores
-core_within m a h = less_of a.core.0 m.cores (both (nat_lt a.core.0 m.cores) (nat_le a.lane.0 m.buffer) h).0
-  where
-    less_of : (i j : ℕ) → nat_lt i j ≡ true → i < j
-    less_of i j t = search rules
-
 -- what is found among PEIs is as the history has it
 tracked_in : (journal : List Event) (test : PeiLook → Bool) (ps : List PeiLook) (q : PeiLook) → AllByRecursion (IsTracked journal) ps → find test ps ≡ Some q → IsTracked journal q
 tracked_in journal test [] q h e = absurd (cc e)
@@ -70,9 +62,6 @@ tracked_in journal test (p ∷ ps) q h e = by (test p) e (λ k. tracked_in journ
     by : (b : Bool) → cond b (Some p) (find test ps) ≡ Some q → (find test ps ≡ Some q → IsTracked journal q) → IsTracked journal q
     by true k rest = let same : p ≡ q = cc in subst (IsTracked journal) same h.0
     by false k rest = rest k
-
-same_here : (n : ℕ) → (n == n) ≡ true
-same_here n = search rules
 
 -- ---- a turn
 
@@ -152,7 +141,7 @@ tracked_event laws p m image r v a s t w e ends actor track turned ended =
         let same : c.0 ≡ a.core.0 = grind (arith, nat_tests)
         in let is_t = get_set_same v.cores a.core.0 t u (ap (slice_get (slice_set v.cores a.core.0 t)) (sym same) ∙ found)
         in let at = track.cores a.core s (core_within m a actor) turned.own
-        in let own = own_next laws.grow p m image r.journal (record { actor = a; kind = e.kind }) a.core s.state t.state (same_here a.core.0) turned.core at
+        in let own = own_next laws.grow p m image r.journal (record { actor = a; kind = e.kind }) a.core s.state t.state (same_self a.core.0) turned.core at
         in subst (λ (d : CoreId). IsAt p m image (r.journal ++ record { actor = a; kind = e.kind } ∷ []) d u.state) (ap (λ n. record { 0 = n }) (sym same))
         (subst (λ (y : Standing). IsAt p m image (r.journal ++ record { actor = a; kind = e.kind } ∷ []) a.core y.state) (sym is_t) own)
     core c u within found false h =

@@ -1,13 +1,15 @@
 -- What a walk over the slots of a set finds.
 use Rattle.std.proofs.Common.{◌≡◌, ◌≢◌, ℕ, ◌+◌, ◌*◌, ◌<◌, ◌≤◌, ◌==◌, Bool, true, false, not, true≢false, List, [], ◌∷◌, length, Option, Some, None, find, refl, sym, ◌∙◌, ap, inl, inr, arith}
 use Rattle.std.specs.Prelude.{IfSome, IfNone, is_some, is_none}
-use Rattle.std.proofs.lemmas.Bool.{eq-eqb, ne_eqb}
+use Rattle.std.proofs.lemmas.Bool.{eq-eqb, ne_eqb, cases_Bool}
 use Rattle.std.proofs.lemmas.Bool.Decides.{eqb_tells}
 use Rattle.pei_types.specs.Recency.{list_at}
 use Rattle.link_list.specs.Linked.{has_node}
 use Rattle.set_lists.specs.Placed.{Placed, IsAt, IsListed, IsOfSet, IsPlaced, key_at, is_key, has_key}
-use Rattle.set_lists.proofs.Members.{not_both, tells, first_is, later_is}
+use Rattle.set_lists.proofs.Members.{later_is}
 use Rattle.set_lists.proofs.Slots.{row_end, fills, fits_less, same_set}
+use Rattle.pei_types.proofs.Tests.{not_both}
+use Rattle.pei_types.proofs.Members.{first_is_member}
 
 -- the key that a slot has
 pub key_of : (key : ℕ) (o : Option ℕ) → is_key key o ≡ true → o ≡ Some key
@@ -21,7 +23,7 @@ pub is_the_key : (key : ℕ) (o : Option ℕ) → o ≡ Some key → is_key key 
 is_the_key key o h = ap (is_key key) h ∙ eq-eqb key key refl
 
 pub is_no_key : (key : ℕ) (o : Option ℕ) → o ≢ Some key → is_key key o ≡ false
-is_no_key key o h = elim (tells (is_key key o)) [
+is_no_key key o h = elim (cases_Bool (is_key key o)) [
   | inl passes ↦ absurd (h (key_of key o passes))
   | inr fails ↦ fails
 ]
@@ -31,12 +33,12 @@ none_or_some slot h = cc h
 
 pub find_none : (p : ℕ → Bool) (xs : List ℕ) → ((slot : ℕ) → has_node xs slot ≡ true → p slot ≡ false) → find p xs ≡ None
 find_none p [] none = refl
-find_none p (x ∷ xs) none = rw (none x (first_is x xs)) (find_none p xs (λ slot here. none slot (later_is slot x xs here)))
+find_none p (x ∷ xs) none = rw (none x (first_is_member x xs)) (find_none p xs (λ slot here. none slot (later_is slot x xs here)))
 
 find_some : (p : ℕ → Bool) (slot : ℕ) (xs : List ℕ) → has_node xs slot ≡ true → p slot ≡ true → ((other : ℕ) → has_node xs other ≡ true → p other ≡ true → other ≡ slot) → find p xs ≡ Some slot
 find_some p slot [] here passes alone = absurd (true≢false (sym here))
-find_some p slot (x ∷ xs) here passes alone = elim (tells (p x)) [
-  | inl at_x ↦ rw at_x (ap Some (alone x (first_is x xs) at_x))
+find_some p slot (x ∷ xs) here passes alone = elim (cases_Bool (p x)) [
+  | inl at_x ↦ rw at_x (ap Some (alone x (first_is_member x xs) at_x))
   | inr not_x ↦ elim (eqb_tells slot x) [
     | inl same ↦ absurd (not_both (p x) (ap p (sym same.1) ∙ passes) not_x)
     | inr other ↦ rw not_x (find_some p slot xs (rw other.0 at here) passes (λ y there. alone y (later_is y x xs there)))
@@ -45,7 +47,7 @@ find_some p slot (x ∷ xs) here passes alone = elim (tells (p x)) [
 
 pub find_passes : (p : ℕ → Bool) (xs : List ℕ) → find p xs ≡ None → (slot : ℕ) → has_node xs slot ≡ true → p slot ≡ false
 find_passes p [] none slot here = absurd (true≢false (sym here))
-find_passes p (x ∷ xs) none slot here = elim (tells (p x)) [
+find_passes p (x ∷ xs) none slot here = elim (cases_Bool (p x)) [
   | inl at_x ↦ let e : Some x ≡ None = rw at_x at none in cc e
   | inr not_x ↦ elim (eqb_tells slot x) [
     | inl same ↦ ap p same.1 ∙ not_x
@@ -55,8 +57,8 @@ find_passes p (x ∷ xs) none slot here = elim (tells (p x)) [
 
 find_is_in : (p : ℕ → Bool) (xs : List ℕ) (slot : ℕ) → find p xs ≡ Some slot → (has_node xs slot ≡ true) × (p slot ≡ true)
 find_is_in p [] slot h = absurd (none_or_some slot h)
-find_is_in p (x ∷ xs) slot h = elim (tells (p x)) [
-  | inl at_x ↦ let same : Some x ≡ Some slot = rw at_x at h in let e : x ≡ slot = cc same in (ap (λ z. has_node (x ∷ xs) z) (sym e) ∙ first_is x xs, ap p (sym e) ∙ at_x)
+find_is_in p (x ∷ xs) slot h = elim (cases_Bool (p x)) [
+  | inl at_x ↦ let same : Some x ≡ Some slot = rw at_x at h in let e : x ≡ slot = cc same in (ap (λ z. has_node (x ∷ xs) z) (sym e) ∙ first_is_member x xs, ap p (sym e) ∙ at_x)
   | inr not_x ↦ let rest = find_is_in p xs slot (rw not_x at h) in (later_is slot x xs rest.0, rest.1)
 ]
 
@@ -98,7 +100,7 @@ full v placed set taken =
     in omega (arith, many, placed.within set)
 
 pub not_listed : (v : Placed) → IsPlaced v → (set slot : ℕ) → key_at v.keys slot ≡ None → has_node (list_at v.lists set) slot ≡ false
-not_listed v placed set slot free = elim (tells (has_node (list_at v.lists set) slot)) [
+not_listed v placed set slot free = elim (cases_Bool (has_node (list_at v.lists set) slot)) [
   | inl here ↦ let found = placed.keyed set slot here in let e : None ≡ Some found.0 = sym free ∙ found.1 in cc e
   | inr absent ↦ absent
 ]
@@ -107,7 +109,7 @@ pub not_full : (v : Placed) → IsPlaced v → (set slot : ℕ) → set * v.ways
 not_full v placed set slot from to free =
     fits_less v.ways (set * v.ways) slot (list_at v.lists set) (placed.distinct set) (λ x here. ((placed.own set x here).first, (placed.own set x here).last)) from to (not_listed v placed set slot free)
 
--- ---- what a scan of a set's row tells
+-- ---- what a scan of a set's row cases_Bool
 
 pub find_is : (v : Placed) → IsPlaced v → (set key : ℕ) (r : Option ℕ)
     → IfSome r (λ slot. (set * v.ways ≤ slot) × (slot < set * v.ways + v.ways) × (key_at v.keys slot ≡ Some key))

@@ -9,8 +9,8 @@ use Rattle.pei_types.specs.Recency.{list_at}
 use Rattle.link_list.specs.Linked.{Linked, IsWellFormed, has_node, list_of}
 use Rattle.link_list.specs.Laws.{NodesAreListed}
 use Rattle.set_lists.specs.Placed.{Placed, IsAt, IsListed, IsOfSet, IsPlaced, key_at, is_key, has_key}
-use Rattle.set_lists.proofs.Members.{not_both}
 use Rattle.set_lists.proofs.Slots.{fits}
+use Rattle.pei_types.proofs.Tests.{not_both}
 
 -- what a placement is, but for the number of slots in each list
 pub placed_by : (v : Placed) → 0 < length v.lists → 0 < v.ways → length v.keys ≡ length v.lists * v.ways

@@ -1,15 +1,11 @@
 -- Which slots are in the lists after each call.
-use Rattle.std.proofs.Common.{◌≡◌, ◌≢◌, ◌⊎◌, ℕ, zero, suc, true, true≢false, List, [], ◌∷◌, length, nat_eq, Some, None, refl, sym, ◌∙◌, ap, inl, inr, arith}
+use Rattle.std.proofs.Common.{◌≡◌, ◌≢◌, ◌⊎◌, ℕ, zero, suc, true, true≢false, List, [], ◌∷◌, nat_eq, Some, None, refl, sym, ◌∙◌, ap, inl, inr, arith}
 use Rattle.std.proofs.lemmas.Bool.Decides.{eqb_tells}
 use Rattle.pei_types.specs.Recency.{change_at, list_at, without}
 use Rattle.link_list.specs.Linked.{has_node}
 use Rattle.set_lists.specs.Placed.{Placed, IsListed, IsPlaced, key_at, touched, inserted, removed}
-use Rattle.set_lists.proofs.Members.{is_later, was_without, other_without}
-
-pub length-change_at : {A : Type 0} (xs : List A) (i : ℕ) (f : A → A) → length (change_at xs i f) ≡ length xs
-length-change_at [] i f = refl
-length-change_at (x ∷ xs) zero f = refl
-length-change_at (x ∷ xs) (suc i) f = ap suc (length-change_at xs i f)
+use Rattle.set_lists.proofs.Members.{is_later, other_without}
+use Rattle.pei_types.proofs.Members.{member_before-without}
 
 -- a slot in the lists of which one was changed
 changed_has : (lists : List (List ℕ)) (i : ℕ) (f : List ℕ → List ℕ) (l x : ℕ) → has_node (list_at (change_at lists i f) l) x ≡ true
@@ -30,7 +26,7 @@ pub touching : (v : Placed) (set slot : ℕ) → IsListed v set slot → (other 
 touching v set slot listed other x here = elim (changed_has v.lists set (λ xs. slot ∷ without (nat_eq slot) xs) other x here) [
   | inl same ↦ in_set v set other x same.0 (elim (eqb_tells x slot) [
     | inl at_slot ↦ ap (λ z. has_node (list_at v.lists set) z) at_slot.1 ∙ listed
-    | inr apart ↦ was_without x slot (list_at v.lists set) (is_later x slot (without (nat_eq slot) (list_at v.lists set)) apart.1 same.1)
+    | inr apart ↦ member_before-without x slot (list_at v.lists set) (is_later x slot (without (nat_eq slot) (list_at v.lists set)) apart.1 same.1)
   ])
   | inr apart ↦ apart.1
 ]
@@ -52,6 +48,6 @@ inserting v placed set slot key free other x here = elim (changed_has v.lists se
 
 pub removing : (v : Placed) → IsPlaced v → (set slot : ℕ) → IsListed v set slot → (other x : ℕ) → IsListed (removed v set slot) other x → IsListed v other x × (x ≢ slot)
 removing v placed set slot listed other x here = elim (changed_has v.lists set (without (nat_eq slot)) other x here) [
-  | inl same ↦ (in_set v set other x same.0 (was_without x slot (list_at v.lists set) same.1), other_without x slot (list_at v.lists set) same.1)
+  | inl same ↦ (in_set v set other x same.0 (member_before-without x slot (list_at v.lists set) same.1), other_without x slot (list_at v.lists set) same.1)
   | inr apart ↦ (apart.1, λ e. apart.0 (placed.apart other set slot (ap (λ z. has_node (list_at v.lists other) z) (sym e) ∙ apart.1) listed))
 ]

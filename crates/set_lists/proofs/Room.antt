@@ -9,19 +9,16 @@ use Rattle.link_list.specs.Linked.{has_node}
 use Rattle.link_list.specs.Laws.{HeldFollow}
 use Rattle.set_lists.specs.Placed.{Placed, IsListed, IsPlaced, key_at, is_key, has_key, inserted, without_victim, room_made}
 use Rattle.set_lists.specs.Laws.{held, SameElse}
-use Rattle.set_lists.proofs.Members.{not_both, first_is, later_is, distinct-head, distinct-tail}
 use Rattle.set_lists.proofs.Slots.{less_without}
 use Rattle.set_lists.proofs.Finding.{find_none, find_passes}
-use Rattle.set_lists.proofs.Listing.{length-change_at, removing}
+use Rattle.set_lists.proofs.Listing.{removing}
 use Rattle.set_lists.proofs.Holding.{room_left, unchanged, same_change, list_held, put_held}
+use Rattle.pei_types.proofs.Lists.{change_at-change_at, length-change_at}
+use Rattle.pei_types.proofs.Members.{last_is_member, distinct-head, distinct-tail}
+use Rattle.pei_types.proofs.Tests.{not_both}
 
 no_last : (slot : ℕ) → None ≡ Some slot → ⊥
 no_last slot h = cc h
-
-last_in : (xs : List ℕ) (slot : ℕ) → last_or None xs ≡ Some slot → has_node xs slot ≡ true
-last_in [] slot h = absurd (no_last slot h)
-last_in (x ∷ []) slot h = let e : x ≡ slot = cc h in ap (λ z. has_node (x ∷ []) z) (sym e) ∙ first_is x []
-last_in (x ∷ y ∷ ys) slot h = later_is slot x (y ∷ ys) (last_in (y ∷ ys) slot h)
 
 without_last : (xs : List ℕ) (slot : ℕ) → IsDistinct nat_eq xs → last_or None xs ≡ Some slot → without (nat_eq slot) xs ≡ take (length xs - 1) xs
 without_last [] slot d h = absurd (no_last slot h)
@@ -30,7 +27,7 @@ without_last (x ∷ []) slot d h = elim (eqb_tells slot x) [
   | inr other ↦ let e : x ≡ slot = cc h in absurd (other.1 (sym e))
 ]
 without_last (x ∷ y ∷ ys) slot d h =
-    let apart : slot ≢ x = λ e. not_both (has_node (y ∷ ys) x) (ap (λ z. has_node (y ∷ ys) z) (sym e) ∙ last_in (y ∷ ys) slot h) (distinct-head x (y ∷ ys) d)
+    let apart : slot ≢ x = λ e. not_both (has_node (y ∷ ys) x) (ap (λ z. has_node (y ∷ ys) z) (sym e) ∙ last_is_member (y ∷ ys) slot h) (distinct-head x (y ∷ ys) d)
     in let more : length (x ∷ y ∷ ys) - 1 ≡ suc (length (y ∷ ys) - 1) = omega arith
     in rw (ne_eqb slot x apart, more) (ap (λ l. x ∷ l) (without_last (y ∷ ys) slot (distinct-tail x (y ∷ ys) d) h))
 
@@ -42,7 +39,7 @@ victim_last ways xs slot h = elim (eqb_tells (length xs) ways) [
 ]
 
 victim_in : (ways : ℕ) (xs : List ℕ) (slot : ℕ) → victim ways xs ≡ Some slot → has_node xs slot ≡ true
-victim_in ways xs slot h = last_in xs slot (victim_last ways xs slot h).1
+victim_in ways xs slot h = last_is_member xs slot (victim_last ways xs slot h).1
 
 at_changed : (lists : List (List ℕ)) (i : ℕ) (f : List ℕ → List ℕ) → i < length lists → list_at (change_at lists i f) i ≡ f (list_at lists i)
 at_changed [] i f h = absurd (omega arith)
@@ -78,7 +75,7 @@ room_by : (v : Placed) → IsPlaced v → (set : ℕ) → set < length v.lists �
 room_by v placed set within None is = room_left v.ways (list_at v.lists set) placed.some_ways (placed.within set) is
 room_by v placed set within (Some slot) is =
     let full = victim_last v.ways (list_at v.lists set) slot is
-    in omega (arith, ap length (at_changed v.lists set (without (nat_eq slot)) within), less_without slot (list_at v.lists set) (last_in (list_at v.lists set) slot full.1), full.0)
+    in omega (arith, ap length (at_changed v.lists set (without (nat_eq slot)) within), less_without slot (list_at v.lists set) (last_is_member (list_at v.lists set) slot full.1), full.0)
 
 pub room_is_made : (v : Placed) → IsPlaced v → (set : ℕ) → set < length v.lists → length (list_at (room_made v set).lists set) < (room_made v set).ways
 room_is_made v placed set within = room_by v placed set within (victim v.ways (list_at v.lists set)) refl
@@ -90,11 +87,6 @@ still_lacks v placed set key absent =
     in ap (is_key key) was.1 ∙ find_passes (has_key v.keys key) (list_at v.lists set) absent x was.0)
 
 -- ---- what is held
-
-change_at-change_at : {A : Type 0} (f g : A → A) (xs : List A) (i : ℕ) → change_at (change_at xs i f) i g ≡ change_at xs i (λ x. g (f x))
-change_at-change_at f g [] i = refl
-change_at-change_at f g (x ∷ xs) zero = refl
-change_at-change_at f g (x ∷ xs) (suc i) = ap (λ ys. x ∷ ys) (change_at-change_at f g xs i)
 
 held_by : {A : Type 0} → HeldFollow A → (v : Placed) → IsPlaced v → (set : ℕ) (hold : ℕ → A) (o : Option ℕ) → victim v.ways (list_at v.lists set) ≡ o
     → held hold (without_victim v set o).lists ≡ change_at (held hold v.lists) set (λ xs. if nat_lt (length xs) v.ways then xs else take (length xs - 1) xs)

@@ -2,13 +2,14 @@
 use Rattle.std.proofs.Common.{◌≡◌, ℕ, zero, suc, ◌+◌, ◌*◌, ◌<◌, ◌≤◌, true, false, not, List, [], ◌∷◌, length, filter, nat_eq, refl, sym, inl, inr, arith, true≢false}
 use Rattle.std.specs.List.{IsDistinct}
 use Rattle.std.proofs.lemmas.List.Filters.{length-filter_both}
-use Rattle.std.proofs.lemmas.Bool.{cases_order}
+use Rattle.std.proofs.lemmas.Bool.{cases_order, cases_Bool}
 use Rattle.std.proofs.lemmas.Bool.Decides.{eqb_tells}
 use Rattle.std.proofs.Math.Nat.{mul-le-mul_right, suc-mul}
 use Rattle.link_list.specs.Linked.{has_node}
 use Rattle.pei_types.specs.Recency.{without}
 use Rattle.set_lists.specs.Placed.{IsOfSet}
-use Rattle.set_lists.proofs.Members.{tells, only_none, only_one, first_is, is_later, stays_without, was_without, other_without, distinct-without, distinct-cons}
+use Rattle.set_lists.proofs.Members.{is_later, stays_without, other_without}
+use Rattle.pei_types.proofs.Members.{distinct-cons, first_is_member, filter-absent, filter-once, member_before-without, distinct-without}
 
 -- the row of a set ends where the row of the next begins
 pub row_end : (set sets ways : ℕ) → set < sets → set * ways + ways ≤ sets * ways
@@ -40,9 +41,9 @@ pub less_without : (y : ℕ) (xs : List ℕ) → has_node xs y ≡ true → leng
 less_without y xs here = omega (arith, both y xs, some-only y xs here)
 
 most-only : (y : ℕ) (xs : List ℕ) → IsDistinct nat_eq xs → length (filter (nat_eq y) xs) ≤ 1
-most-only y xs d = elim (tells (has_node xs y)) [
-  | inl here ↦ rw (only_one y xs d here) (omega arith)
-  | inr free ↦ rw (only_none y xs free) (omega arith)
+most-only y xs d = elim (cases_Bool (has_node xs y)) [
+  | inl here ↦ rw (filter-once y xs d here) (omega arith)
+  | inr free ↦ rw (filter-absent y xs free) (omega arith)
 ]
 
 -- a list that has each of w slots in a row has as many slots
@@ -56,10 +57,10 @@ fills (suc w) first xs all =
 -- a list of some of w slots in a row has no more
 pub fits : (w first : ℕ) (xs : List ℕ) → IsDistinct nat_eq xs → ((slot : ℕ) → has_node xs slot ≡ true → (first ≤ slot) × (slot < first + w)) → length xs ≤ w
 fits zero first [] d own = omega arith
-fits zero first (x ∷ xs) d own = let at_x = own x (first_is x xs) in absurd (omega (arith, at_x.0, at_x.1))
+fits zero first (x ∷ xs) d own = let at_x = own x (first_is_member x xs) in absurd (omega (arith, at_x.0, at_x.1))
 fits (suc w) first xs d own =
     let rest = fits w first (without (nat_eq (first + w)) xs) (distinct-without (first + w) xs d) (λ slot here.
-    let was = own slot (was_without slot (first + w) xs here)
+    let was = own slot (member_before-without slot (first + w) xs here)
     in let apart = other_without slot (first + w) xs here
     in (was.0, omega (arith, was.1, apart)))
     in omega (arith, rest, both (first + w) xs, most-only (first + w) xs d)

@@ -2,10 +2,10 @@ use Rattle.std.proofs.Common.{sym, ap, ◌∙◌}
 use Rattle.link_list.specs.Linked.{list_of}
 use Rattle.link_list.proofs.Ties.{back_read, list_of-tied, tied_back}
 use Rattle.link_list.proofs.Formed.{list_of-pushed_back_same, list_of-pushed_back_other}
-use Rattle.link_list.proofs.Changing.{length-change_at}
 use Rattle.std.proofs.Common.{◌∷◌, ◌++◌, [], length}
 use Rattle.link_list.specs.Linked.{pushed_back}
 use Rattle.link_list.proofs.Lists.push_back.Goals as goal
+use Rattle.pei_types.proofs.Lists.{length-change_at}
 
 pub add_last-requires-clause-last : goal.add_last-requires-clause-last
 add_last-requires-clause-last c =

@@ -1,10 +1,11 @@
 use Rattle.std.proofs.Common.{nat_eq, ◌++◌, ◌∷◌, []}
 use Rattle.std.proofs.lemmas.List.{length-map}
 use Rattle.pei_types.specs.Recency.{without, to_front}
-use Rattle.link_list.proofs.Changing.{change_at-change_at, length-change_at, list_at-change_at_same, list_at-change_at_other}
+use Rattle.link_list.proofs.Changing.{list_at-change_at_other}
 use Rattle.link_list.proofs.Formed.{list_at-unlinked, list_at-moved_front}
 use Rattle.link_list.proofs.Orders.{unlinked_other, moved_other, moved_one}
 use Rattle.link_list.proofs.laws.lists_change.Goals as goal
+use Rattle.pei_types.proofs.Lists.{length-change_at, list_at-change_at_same, change_at-change_at}
 
 pub returns : goal.returns
 returns c = record {

@@ -1,13 +1,10 @@
-use Rattle.std.proofs.Common.{◌≡◌, Some, None, refl, sym, ◌∙◌, ap, not, is_none, Bool, ◌||◌, true, false}
+use Rattle.std.proofs.Common.{◌≡◌, Some, None, refl, sym, ◌∙◌, ap, not, is_none, ◌||◌, true, false}
 use Rattle.pei_types.specs.Coherence.{is_i, is_owned, is_sealed, no_other_has}
 use Rattle.pei_types.specs.Next.{other_owner}
 use Rattle.pmu_dispatch.specs.Shown.{first_core}
 use Rattle.pmu_dispatch.proofs.Cores.{blocks_other_holder, blocks_other_owner, blocks_sealed, no_other_shown}
 use Rattle.pmu_dispatch.proofs.wanting.grant_to_share.Goals as goal
-
-or_true : (b : Bool) → (b || true) ≡ true
-or_true true = refl
-or_true false = refl
+use Rattle.std.proofs.Math.Bool.{or-true}
 
 pub returns-in-Some : goal.returns-in-Some
 returns-in-Some c m s taken =
@@ -21,7 +18,7 @@ returns-then-looks c m s taken =
     = sym (blocks_other_owner m s c.args.looks.now taken) ∙ ap (first_core is_owned) (sym c.other_letters-others.ensures) ∙ sym c.owner.ensures ∙ c.in_default.is
     in let sealed : is_sealed s c.args.looks.now.block ≡ true = sym (blocks_sealed m s c.args.looks.now taken) ∙ c.if-looks.true
     in let shared : (not (no_other_has m s c.args.looks.now.own c.args.looks.now.block) || is_sealed s c.args.looks.now.block) ≡ true
-    = rw sealed (or_true (not (no_other_has m s c.args.looks.now.own c.args.looks.now.block)))
+    = rw sealed (or-true (not (no_other_has m s c.args.looks.now.own c.args.looks.now.block)))
     in rw (owns, shared) refl
 
 pub returns-in-Some-holder : goal.returns-in-Some-holder

@@ -4,8 +4,9 @@ use Rattle.pei_types.specs.declared.events.EventKind.TheVariants as event
 use Rattle.pei_types.specs.Coherence.{Line, is_absent, mark_of}
 use Rattle.pei_types.specs.Next.{l1_victim}
 use Rattle.pmu_dispatch.proofs.Cores.{blocks_mark, blocks_l1_victim}
-use Rattle.pmu_dispatch.proofs.Mapped.{some_mapped, none_mapped}
+use Rattle.pmu_dispatch.proofs.Mapped.{some_mapped}
 use Rattle.pmu_dispatch.proofs.wanting.want_next.Goals as goal
+use Rattle.pei_types.proofs.Tests.{none_of_map}
 
 pub returns-then-is_absent : goal.returns-then-is_absent
 returns-then-is_absent c m s taken =
@@ -24,12 +25,12 @@ pub returns-then-modify : goal.returns-then-modify
 returns-then-modify c m s taken =
     let there : is_absent (mark_of m s c.args.looks.now.block) ≡ false
     = ap is_absent (sym (blocks_mark m s c.args.looks.now taken)) ∙ sym c.is_absent.ensures ∙ c.if-is_absent.false
-    in let none = none_mapped (λ (line : Line). line.block) (l1_victim m s c.args.looks.now.own c.args.looks.now.block) (sym (blocks_l1_victim m s c.args.looks.now taken) ∙ c.in_default.is)
+    in let none = none_of_map (λ (line : Line). line.block) (l1_victim m s c.args.looks.now.own c.args.looks.now.block) (sym (blocks_l1_victim m s c.args.looks.now taken) ∙ c.in_default.is)
     in rw (there, none, c.if-modify.true) (c.grant_to_modify.ensures m s taken)
 
 pub returns-else-modify : goal.returns-else-modify
 returns-else-modify c m s taken =
     let there : is_absent (mark_of m s c.args.looks.now.block) ≡ false
     = ap is_absent (sym (blocks_mark m s c.args.looks.now taken)) ∙ sym c.is_absent.ensures ∙ c.if-is_absent.false
-    in let none = none_mapped (λ (line : Line). line.block) (l1_victim m s c.args.looks.now.own c.args.looks.now.block) (sym (blocks_l1_victim m s c.args.looks.now taken) ∙ c.in_default.is)
+    in let none = none_of_map (λ (line : Line). line.block) (l1_victim m s c.args.looks.now.own c.args.looks.now.block) (sym (blocks_l1_victim m s c.args.looks.now taken) ∙ c.in_default.is)
     in rw (there, none, c.if-modify.false) (c.grant_to_share.ensures m s taken)

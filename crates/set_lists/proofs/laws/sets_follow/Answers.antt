@@ -3,10 +3,11 @@ use Rattle.std.proofs.lemmas.List.{length-map}
 use Rattle.pei_types.specs.Recency.{without}
 use Rattle.set_lists.specs.Laws.{SlotsFollow}
 use Rattle.set_lists.proofs.Finding.{known}
-use Rattle.set_lists.proofs.Listing.{length-change_at, touching, inserting, removing}
+use Rattle.set_lists.proofs.Listing.{touching, inserting, removing}
 use Rattle.set_lists.proofs.Holding.{follows, absent_held, lacks_held, put_held, empty_held, same_change, stays_held, list_held, victim_held, room_left}
 use Rattle.set_lists.proofs.Room.{making_room, keys_room, count_room, renewed_held}
 use Rattle.set_lists.proofs.laws.sets_follow.Goals as goal
+use Rattle.pei_types.proofs.Lists.{length-change_at}
 
 slots_follow : SlotsFollow
 slots_follow = record {
