@@ -10,7 +10,7 @@ use Rattle.shared_table.specs.declared.claims.Gathered.{Gathered}
 use Rattle.shared_table.specs.declared.claims.Knowledge.{Knowledge}
 use Rattle.shared_table.specs.Claims.{gathering}
 use Rattle.shared_table.specs.Closing.{gather_all}
-use Rattle.shared_table.specs.Diaries.{Fits}
+use Rattle.shared_table.specs.Diaries.{Fits, diary_of}
 use Rattle.shared_table.specs.Place.{SeatView}
 use Rattle.shared_table.specs.Receipts.{seat_account, gathered_account, accounts}
 
@@ -29,7 +29,7 @@ only_one {A} a b e = ap (λ (l : List A). first a l) e
     first d (x ∷ xs) = x
 
 abbrev entry : SeatView → Gathered
-entry s = record { core = s.knows.side.name.core; diary = s.knows.side.diary }
+entry s = record { core = s.knows.side.name.core; diaries = s.knows.side.diaries }
 
 pub gather_turn : (v : Knowledge) (ss : List SeatView) → (gather_all v ss).side.turn ≡ v.side.turn
 gather_turn v [] = refl
@@ -39,9 +39,9 @@ gather_core : (v : Knowledge) (ss : List SeatView) → (gather_all v ss).side.na
 gather_core v [] = refl
 gather_core v (s ∷ ss) = gather_core (gathering v s.knows) ss
 
-gather_diary : (v : Knowledge) (ss : List SeatView) → (gather_all v ss).side.diary ≡ v.side.diary
-gather_diary v [] = refl
-gather_diary v (s ∷ ss) = gather_diary (gathering v s.knows) ss
+gather_diaries : (v : Knowledge) (ss : List SeatView) → (gather_all v ss).side.diaries ≡ v.side.diaries
+gather_diaries v [] = refl
+gather_diaries v (s ∷ ss) = gather_diaries (gathering v s.knows) ss
 
 gather_list : (v : Knowledge) (ss : List SeatView) (gs : List Gathered) → v.side.gathered ≡ gs → (gather_all v ss).side.gathered ≡ gs ++ map entry ss
 gather_list v [] gs is = is ∙ nil gs
@@ -52,15 +52,15 @@ gather_list v [] gs is = is ∙ nil gs
 gather_list v (s ∷ ss) gs is = gather_list (gathering v s.knows) ss (gs ++ entry s ∷ []) (ap (λ l. l ++ entry s ∷ []) is) ∙ append_assoc gs (entry s ∷ []) (map entry ss)
 
 pub all_seen : (l : List Event) (a : List Active) (v last : Knowledge) (s : SeatView) (xs ss : List SeatView) → xs ≡ s ∷ ss → last ≡ gather_all v ss → v ≡ s.knows → v.side.gathered ≡ []
-    → Fits l a last.side.name.core last.side.diary → ((i : ℕ) (g : Gathered) → get_elem? last.side.gathered i ≡ some g → Fits l a g.core g.diary)
-    → (i : ℕ) (u : SeatView) → get_elem? xs i ≡ some u → Fits l a u.knows.side.name.core u.knows.side.diary
-all_seen l a v last s xs ss is ends same none own others = subst (λ (zs : List SeatView). (i : ℕ) (u : SeatView) → get_elem? zs i ≡ some u → Fits l a u.knows.side.name.core u.knows.side.diary) (sym is) each
+    → Fits l a last.side.name.core (diary_of 0 last.side.diaries) → ((i : ℕ) (g : Gathered) → get_elem? last.side.gathered i ≡ some g → Fits l a g.core (diary_of 0 g.diaries))
+    → (i : ℕ) (u : SeatView) → get_elem? xs i ≡ some u → Fits l a u.knows.side.name.core (diary_of 0 u.knows.side.diaries)
+all_seen l a v last s xs ss is ends same none own others = subst (λ (zs : List SeatView). (i : ℕ) (u : SeatView) → get_elem? zs i ≡ some u → Fits l a u.knows.side.name.core (diary_of 0 u.knows.side.diaries)) (sym is) each
   where
-    each : (i : ℕ) (u : SeatView) → get_elem? (s ∷ ss) i ≡ some u → Fits l a u.knows.side.name.core u.knows.side.diary
-    each zero u e = subst (λ (z : ℕ × Diary). Fits l a z.0 z.1)
+    each : (i : ℕ) (u : SeatView) → get_elem? (s ∷ ss) i ≡ some u → Fits l a u.knows.side.name.core (diary_of 0 u.knows.side.diaries)
+    each zero u e = subst (λ (z : ℕ × List Diary). Fits l a z.0 (diary_of 0 z.1))
         (λ j. (
           (ap (λ (w : Knowledge). w.side.name.core) ends ∙ gather_core v ss ∙ ap (λ (w : Knowledge). w.side.name.core) same ∙ ap (λ (w : SeatView). w.knows.side.name.core) (some-injective s u e)) j,
-          (ap (λ (w : Knowledge). w.side.diary) ends ∙ gather_diary v ss ∙ ap (λ (w : Knowledge). w.side.diary) same ∙ ap (λ (w : SeatView). w.knows.side.diary) (some-injective s u e)) j,
+          (ap (λ (w : Knowledge). w.side.diaries) ends ∙ gather_diaries v ss ∙ ap (λ (w : Knowledge). w.side.diaries) same ∙ ap (λ (w : SeatView). w.knows.side.diaries) (some-injective s u e)) j,
         )) own
     each (suc i) u e = others i (entry u) (ap (λ (gs : List Gathered). get_elem? gs i) (ap (λ (w : Knowledge). w.side.gathered) ends ∙ gather_list v ss [] none) ∙ at_map entry ss i u e)
 
@@ -70,6 +70,6 @@ map_accounts (s ∷ ss) = ap (λ l. seat_account s ∷ l) (map_accounts ss)
 
 pub all_accounts : (v last : Knowledge) (s : SeatView) (xs ss : List SeatView) → xs ≡ s ∷ ss → last ≡ gather_all v ss → v ≡ s.knows → v.side.gathered ≡ [] → accounts (last ∷ []) ≡ map seat_account xs
 all_accounts v last s xs ss is ends same none =
-    (λ j. record { core = (ap (λ (w : Knowledge). w.side.name.core) ends ∙ gather_core v ss ∙ ap (λ (w : Knowledge). w.side.name.core) same) j; events = (ap (λ (w : Knowledge). w.side.diary.mine) ends ∙ ap (λ (d : Diary). d.mine) (gather_diary v ss) ∙ ap (λ (w : Knowledge). w.side.diary.mine) same) j }
+    (λ j. record { core = (ap (λ (w : Knowledge). w.side.name.core) ends ∙ gather_core v ss ∙ ap (λ (w : Knowledge). w.side.name.core) same) j; events = (ap (λ (w : Knowledge). (diary_of 0 w.side.diaries).mine) ends ∙ ap (λ (ds : List Diary). (diary_of 0 ds).mine) (gather_diaries v ss) ∙ ap (λ (w : Knowledge). (diary_of 0 w.side.diaries).mine) same) j }
     ∷ (ap (map gathered_account) (ap (λ (w : Knowledge). w.side.gathered) ends ∙ gather_list v ss [] none) ∙ map_accounts ss) j)
     ∙ ap (map seat_account) (sym is)

@@ -1,15 +1,17 @@
 -- A seat's own array of claims beside its view.
-use Rattle.std.proofs.Common.{◌≡◌, ◌≢◌, ℕ, zero, suc, [], ◌∷◌, get_or, refl, ◌-◌, ◌+◌, ◌<◌, List, length, set, ap, sym, ◌∙◌, subst, arith, Option, length-set, ⊎_elim}
+use Rattle.std.proofs.Common.{◌≡◌, ◌≢◌, ℕ, zero, suc, [], ◌∷◌, get_or, refl, ◌-◌, ◌+◌, ◌<◌, false, true≢false, List, length, set, ap, sym, ◌∙◌, subst, arith, Option, length-set, ⊎_elim}
 use mathlib.Core.Option.{some, some-injective, some-ne-none}
 use lib.ListN.{get_elem?}
 use Rattle.atomic_table.proofs.Lists.{at_set, set_here}
+use Rattle.shared_table.specs.declared.claims.Active.{Active}
 use Rattle.shared_table.specs.declared.claims.Claim.{Claim}
 use Rattle.shared_table.specs.declared.claims.Claim.TheVariants.{Free, Announced, Held}
 use Rattle.shared_table.specs.declared.claims.Side.{Side}
 use Rattle.shared_table.specs.declared.claims.Knowledge.{Knowledge}
 use Rattle.atomic_table.specs.Table.{Me}
 use Rattle.shared_table.specs.Claims.{with_claim}
-use Rattle.shared_table.specs.Own.{Has, IsWithin, IsOwn, IsSteady, slots_of, place_of}
+use Rattle.shared_table.specs.Diaries.{diary_of}
+use Rattle.shared_table.specs.Own.{Has, IsWithin, IsOwn, IsQuiet, IsSteady, StaysFirst, has_slot, slots_of, place_of}
 use Rattle.shared_table.proofs.Totals.{at_inside}
 
 pub lane_bound : (lanes : List Claim) (lane : ℕ) (c : Claim) (words : ℕ) (u : Knowledge) (xs : List Claim) → Has lanes lane c → u.claims ≡ lanes → IsOwn words u xs → lane - 1 < 4
@@ -57,7 +59,23 @@ steady_stay me me' core side slots r = record {
   gathered = ap (λ (s : Side). s.gathered) side ∙ r.gathered;
   number = ap (λ (s : Side). s.name.core) side ∙ r.number;
   slots = slots ∙ r.slots ∙ ap (λ (s : Side). slots_of s.turn) (sym side);
+  first = subst StaysFirst (sym side) r.first;
 }
+
+-- a seat without a slot
+pub idle_turn : (t : ℕ) → has_slot t ≡ false → t ≡ 0
+idle_turn zero e = refl
+idle_turn (suc t) e = absurd (true≢false e)
+
+-- the claim of a lane that is quiet in the first bank may be given back
+pub quiet_all : (s : Side) (lane : ℕ) (c : Claim) → StaysFirst s → IsQuiet (diary_of 0 s.diaries).active lane c → (b : ℕ) → IsQuiet (diary_of b s.diaries).active lane c
+quiet_all s lane c h quiet zero = quiet
+quiet_all s lane c h quiet (suc b) = subst (λ (l : List Active). IsQuiet l lane c) (sym (h.1 b)) (none_quiet c)
+  where
+    none_quiet : (d : Claim) → IsQuiet [] lane d
+    none_quiet Free = tt
+    none_quiet (Announced e) = tt
+    none_quiet (Held e m) = λ j a q. absurd (some-ne-none a (sym q))
 
 pub own_within : (words entries : ℕ) (v : Knowledge) (xs : List Claim) → words ≡ entries + 9 → IsOwn words v xs → (i : ℕ) (c : Claim) → get_elem? v.claims i ≡ some c → IsWithin entries c
 own_within words entries v xs wide own i c e = let n : words - 9 ≡ entries = omega arith in subst (λ (m : ℕ). IsWithin m c) n (own.2 i c (subst (λ (l : List Claim). get_elem? l i ≡ some c) own.0 e))

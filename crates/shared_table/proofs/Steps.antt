@@ -23,11 +23,12 @@ use Rattle.shared_table.specs.declared.claims.Shape.{Shape}
 use Rattle.shared_table.specs.Sums.{total, one_if}
 use Rattle.shared_table.specs.Claims.{reads, writes, waits, weight, before_grant, of_seat, entry_of, room, with_claim, with_look}
 use Rattle.shared_table.specs.Own.{Has, IsQuiet, place_of}
-use Rattle.shared_table.specs.Diaries.{Claimed}
+use Rattle.shared_table.specs.Diaries.{diary_of, Claimed}
 use Rattle.shared_table.specs.Slot.{Slotted}
 use Rattle.shared_table.specs.Rule.{IsExclusive, side_of, Ruled, Shows, Sat, looked, moved, tried}
 use Rattle.shared_table.proofs.Totals.{total_set, total_at, total_below, total_length}
 use Rattle.shared_table.proofs.Pairs.{each_set}
+use Rattle.shared_table.proofs.Sides.{same_turns}
 
 -- two counts that a test finds to be 0
 both_none : (a b : ℕ) → IsTrue ((a == 0) && (b == 0)) → (a ≡ 0) × (b ≡ 0)
@@ -133,16 +134,18 @@ module _ {S : Type 0} (log : S → List Event) (active : S → List Active) (k :
   pub packed : (s : St S) → Ruled log active k s → (e : ℕ) → e < k.entries → IsPacked (entry_of e s.views)
   packed s r e l = let a = few s r (reads e) (reads_one e) in let b = (r.counts.exclusive e l).0 in let c = few s r (waits e) (waits_one e) in (omega arith, omega arith, omega arith)
 
-  slotted_on : (s : St S) → Ruled log active k s → (i id n : ℕ) (v w : Knowledge) → get_elem? s.views id ≡ some v → w.side ≡ v.side → get_or (set s.words i n) 0 0 ≡ get_or s.words 0 0
-      → Slotted log active k.entries k.cores (get_or (set s.words i n) 0 0) s.homes (map side_of (set s.views id w))
-  slotted_on s r i id n v w at side turn = subst (λ (z : ℕ × List Side). Slotted log active k.entries k.cores z.0 s.homes z.1) (λ j. (sym turn j, sym (same_sides s.views id v w at side) j)) r.slotted
+  slotted_on : (s : St S) → Ruled log active k s → (i id n : ℕ) (v w : Knowledge) → get_elem? s.views id ≡ some v → w.side ≡ v.side → 9 ≤ i
+      → Slotted log active k.entries k.cores k.banks (λ b. get_or (set s.words i n) b 0) s.homes (map side_of (set s.views id w))
+  slotted_on s r i id n v w at side behind = subst (Slotted log active k.entries k.cores k.banks (λ b. get_or (set s.words i n) b 0) s.homes) (sym (same_sides s.views id v w at side))
+      (same_turns log active k.entries k.cores k.banks (λ b. get_or s.words b 0) (λ b. get_or (set s.words i n) b 0) s.homes (map side_of s.views) (λ b h. let f = r.few in get_or-set_other s.words i b n 0 (λ q. omega arith)) r.slotted)
 
   -- the lane at place i of a seat changes from old to new, both about the entry e
   pub changed : (s : St S) → Ruled log active k s → (e id i n : ℕ) (cs : List (ℕ × Option S)) (v w : Knowledge) (old new : Claim) → e < k.entries → get_elem? s.views id ≡ some v → get_elem? v.claims i ≡ some old
-      → w.claims ≡ set v.claims i new → w.side ≡ v.side → About e old → About e new → ((j : ℕ) (a : Active) → get_elem? v.side.diary.active j ≡ some a → a.lane.0 - 1 ≢ i)
+      → w.claims ≡ set v.claims i new → w.side ≡ v.side → About e old → About e new → ((b j : ℕ) (a : Active) → get_elem? (diary_of b v.side.diaries).active j ≡ some a → a.lane.0 - 1 ≢ i)
       → n ≡ word_of_claims (entry_of e (set s.views id w)) → IsExclusive (entry_of e (set s.views id w)) → Ruled log active k (stepped s (e + 9) n id cs w keeps)
   changed s r e id i n cs v w old new l at lane lanes side was is idle word alone = record {
     small = r.small;
+    few = r.few;
     wide = length-set s.words (e + 9) n ∙ r.wide;
     counts = record {
       packed = λ d m. dite (ℕ_discrete d e)
@@ -155,9 +158,9 @@ module _ {S : Type 0} (log : S → List Event) (active : S → List Active) (k :
           let p = r.counts.exclusive d m in (omega arith, λ h. let t = p.1 (omega arith) in omega arith));
     };
     rooms = let x = total_set room s.views id v w at in let p : length w.claims ≡ length v.claims = ap length lanes ∙ length-set v.claims i new in let u : w.side.name.spare ≡ v.side.name.spare = ap (λ (z : Side). z.name.spare) side in let y = r.rooms in omega arith;
-    slotted = slotted_on s r (e + 9) id n v w at side (get_or-set_other s.words (e + 9) 0 n 0 (λ h. omega arith));
-    claimed = each_set (λ _ u. Claimed u.side.diary.active u.claims) s.views id w (λ j u _ t. r.claimed j u t)
-        (subst (λ (z : Side × List Claim). Claimed z.0.diary.active z.1) (λ j. (sym side j, sym lanes j)) (claimed_set v.side.diary.active v.claims i new (r.claimed id v at) idle));
+    slotted = slotted_on s r (e + 9) id n v w at side (omega arith);
+    claimed = each_set (λ _ u. (b : ℕ) → Claimed (diary_of b u.side.diaries).active u.claims) s.views id w (λ j u _ t. r.claimed j u t)
+        (λ b. subst (λ (z : Side × List Claim). Claimed (diary_of b z.0.diaries).active z.1) (λ j. (sym side j, sym lanes j)) (claimed_set (diary_of b v.side.diaries).active v.claims i new (r.claimed id v at b) (idle b)));
   }
 
   -- a step that leaves the word, what is beside the claims, and all claims as they were
@@ -169,15 +172,16 @@ module _ {S : Type 0} (log : S → List Event) (active : S → List Active) (k :
       let entry : (d : ℕ) → entry_of d (set s.views id w) ≡ entry_of d s.views = λ d j. record { readers = same (reads d) j; writers = same (writes d) j; waiting = same (waits d) j } in
       subst (λ (ws : List ℕ). Ruled log active k record { words = ws; homes = s.homes; views = set s.views id w }) (sym (set-get_or s.words i 0)) record {
         small = r.small;
+        few = r.few;
         wide = r.wide;
         counts = record {
           packed = λ d m. r.counts.packed d m ∙ ap word_of_claims (sym (entry d));
           exclusive = λ d m. subst IsExclusive (sym (entry d)) (r.counts.exclusive d m);
         };
         rooms = let x = total_set room s.views id v w at in let p : length w.claims ≡ length v.claims = ap length lanes in let u : w.side.name.spare ≡ v.side.name.spare = ap (λ (z : Side). z.name.spare) side in let y = r.rooms in omega arith;
-        slotted = subst (Slotted log active k.entries k.cores (get_or s.words 0 0) s.homes) (sym (same_sides s.views id v w at side)) r.slotted;
-        claimed = each_set (λ _ u. Claimed u.side.diary.active u.claims) s.views id w (λ j u _ t. r.claimed j u t)
-            (subst (λ (z : Side × List Claim). Claimed z.0.diary.active z.1) (λ j. (sym side j, sym lanes j)) (r.claimed id v at));
+        slotted = subst (Slotted log active k.entries k.cores k.banks (λ b. get_or s.words b 0) s.homes) (sym (same_sides s.views id v w at side)) r.slotted;
+        claimed = each_set (λ _ u. (b : ℕ) → Claimed (diary_of b u.side.diaries).active u.claims) s.views id w (λ j u _ t. r.claimed j u t)
+            (λ b. subst (λ (z : Side × List Claim). Claimed (diary_of b z.0.diaries).active z.1) (λ j. (sym side j, sym lanes j)) (r.claimed id v at b));
       }
 
   module _ (slots id e : ℕ) (me : Sat S) (inside : e < k.entries) where
@@ -189,8 +193,8 @@ module _ {S : Type 0} (log : S → List Event) (active : S → List Active) (k :
         (w, keeps, tt, unmoved s r (e + 9) id me.1 v w at refl refl, (refl, refl, shows s r at (e + 9 - 9) (omega arith)))
 
     module _ (i : ℕ) (aim : Knowledge) where
-      idle : (s : St S) → Ruled log active k s → get_elem? s.views id ≡ some me.0 → (c : Claim) → get_elem? me.0.claims i ≡ some c → ((d : ℕ) (m : Mode) → c ≢ Held d m) → (j : ℕ) (a : Active) → get_elem? me.0.side.diary.active j ≡ some a → a.lane.0 - 1 ≢ i
-      idle s r at c lane other = idle_lane me.0.side.diary.active me.0.claims i c (r.claimed id me.0 at) lane other
+      idle : (s : St S) → Ruled log active k s → get_elem? s.views id ≡ some me.0 → (c : Claim) → get_elem? me.0.claims i ≡ some c → ((d : ℕ) (m : Mode) → c ≢ Held d m) → (b j : ℕ) (a : Active) → get_elem? (diary_of b me.0.side.diaries).active j ≡ some a → a.lane.0 - 1 ≢ i
+      idle s r at c lane other b = idle_lane (diary_of b me.0.side.diaries).active me.0.claims i c (r.claimed id me.0 at b) lane other
 
       pub announces : get_elem? me.0.claims i ≡ some Free → aim ≡ with_claim me.0 i (Announced e) → Allows (Ruled log active k) slots id me (e + 9) (λ n. (n + 65536) % 2 ^ 64) (moved aim (step slots (e + 9) 65536 0 none) me)
       announces lane is s r _ at small = let v : Knowledge = me.0 in let w : Knowledge = with_claim v i (Announced e) in
@@ -198,12 +202,12 @@ module _ {S : Type 0} (log : S → List Event) (active : S → List Active) (k :
           let z = views_set (waits e) s.views id v w i Free (Announced e) at lane refl in let p = r.counts.packed e inside in let q = r.counts.exclusive e inside in let t = packed s r e inside in let o = here e in
           (w, keeps, tt, changed s r e id i _ me.1 v w Free (Announced e) inside at lane refl refl (about_free e) (about_announced e) (idle s r at Free lane (λ d m q. cc)) (omega arith) (omega arith, λ h. let u = q.1 (omega arith) in omega arith), (sym is, refl))
 
-      quiets : (s : St S) → Ruled log active k s → get_elem? s.views id ≡ some me.0 → (c : Claim) → get_elem? me.0.claims i ≡ some c → IsQuiet me.0.side.diary.active (i + 1) c → (j : ℕ) (a : Active) → get_elem? me.0.side.diary.active j ≡ some a → a.lane.0 - 1 ≢ i
+      quiets : (s : St S) → Ruled log active k s → get_elem? s.views id ≡ some me.0 → (c : Claim) → get_elem? me.0.claims i ≡ some c → ((b : ℕ) → IsQuiet (diary_of b me.0.side.diaries).active (i + 1) c) → (b j : ℕ) (a : Active) → get_elem? (diary_of b me.0.side.diaries).active j ≡ some a → a.lane.0 - 1 ≢ i
       quiets s r at Free lane q = idle s r at Free lane (λ d m h. cc)
       quiets s r at (Announced x) lane q = idle s r at (Announced x) lane (λ d m h. cc)
-      quiets s r at (Held x m) lane q = λ j a e same. let h = (r.claimed id me.0 at j a e).0 in q j a e (omega arith)
+      quiets s r at (Held x m) lane q = λ b j a e same. let h = (r.claimed id me.0 at b j a e).0 in q b j a e (omega arith)
 
-      pub frees : (c : Claim) (amount : ℕ) → get_elem? me.0.claims i ≡ some c → On e c → amount ≡ weight c → IsQuiet me.0.side.diary.active (i + 1) c → aim ≡ with_claim me.0 i Free
+      pub frees : (c : Claim) (amount : ℕ) → get_elem? me.0.claims i ≡ some c → On e c → amount ≡ weight c → ((b : ℕ) → IsQuiet (diary_of b me.0.side.diaries).active (i + 1) c) → aim ≡ with_claim me.0 i Free
           → Allows (Ruled log active k) slots id me (e + 9) (λ n. (n + (2 ^ 64 - amount)) % 2 ^ 64) (moved aim (step slots (e + 9) amount 0 none) me)
       frees c amount lane on weighs_so quiet is s r _ at small = let v : Knowledge = me.0 in let w : Knowledge = with_claim v i Free in
           let x = views_set (reads e) s.views id v w i c Free at lane refl in let y = views_set (writes e) s.views id v w i c Free at lane refl in

@@ -6,11 +6,10 @@ use Rattle.pei_types.specs.Claims.{Claims}
 use Rattle.shared_table.specs.declared.claims.Claim.{Claim}
 use Rattle.shared_table.specs.declared.claims.Claim.TheVariants.{Free, Announced, Held}
 use Rattle.shared_table.specs.declared.claims.Name.{Name}
-use Rattle.shared_table.specs.declared.claims.Diary.{Diary}
 use Rattle.shared_table.specs.declared.claims.Side.{Side}
 use Rattle.pei_types.specs.declared.events.Event.{Event}
 use Rattle.shared_table.specs.declared.claims.Active.{Active}
-use Rattle.shared_table.specs.Diaries.{events_of, active_of}
+use Rattle.shared_table.specs.Diaries.{events_of, active_of, diary_of, filed}
 use Rattle.shared_table.specs.declared.claims.Look.{Look}
 use Rattle.shared_table.specs.declared.claims.Knowledge.{Knowledge}
 use Rattle.shared_table.specs.Sums.{total, one_if}
@@ -63,11 +62,8 @@ room v = length v.claims + 4 * v.side.name.spare
 abbrev pub no_look : Look
 no_look = record { entry = 0; loaded = 0; found = 0 }
 
-abbrev pub no_diary : Diary
-no_diary = record { mine = []; seen = []; active = [] }
-
 abbrev pub new_side : Name → Side
-new_side name = record { name = name; diary = no_diary; turn = false; lent = []; gone = false; share = 1; gathered = [] }
+new_side name = record { name = name; diaries = []; turn = 0; lent = []; gone = false; share = 1; gathered = [] }
 
 abbrev pub new_seat : Name → Knowledge
 new_seat name = record { side = new_side name; claims = Free ∷ Free ∷ Free ∷ Free ∷ []; looked = no_look; looks = 0; moves = 0 }
@@ -96,17 +92,23 @@ with_look v e loaded found = record v { looked = record { entry = e; loaded = lo
 abbrev pub looked_at : Knowledge → ℕ → ℕ → Knowledge
 looked_at v e n = record (with_look v e n n) { looks = v.looks + 1 }
 
--- a seat that took the slot, whose value has this log and these active PEIs
-abbrev pub with_slot : Knowledge → List Event → List Active → Knowledge
-with_slot v l a = record v { side = record v.side { turn = true; lent = a; diary = record v.side.diary { seen = l } } }
+-- a seat that took the slot of the bank b, whose value has this log and these active PEIs
+abbrev pub side_taking : Side → ℕ → List Event → List Active → Side
+side_taking s b l a = record s { turn = b + 1; lent = a; diaries = filed b (record (diary_of b s.diaries) { seen = l }) s.diaries }
+
+abbrev pub with_slot : Knowledge → ℕ → List Event → List Active → Knowledge
+with_slot v b l a = record v { side = side_taking v.side b l a }
 
 -- a seat that gave it back so
-abbrev pub given_back : Knowledge → List Event → List Active → Knowledge
-given_back v l a = record v { side = record v.side { turn = false; diary = record { mine = events_of v.side.name.core l; seen = l; active = active_of v.side.name.core a } } }
+abbrev pub side_giving : Side → ℕ → List Event → List Active → Side
+side_giving s b l a = record s { turn = 0; diaries = filed b record { mine = events_of s.name.core l; seen = l; active = active_of s.name.core a } s.diaries }
+
+abbrev pub given_back : Knowledge → ℕ → List Event → List Active → Knowledge
+given_back v b l a = record v { side = side_giving v.side b l a }
 
 -- the gathering seat and the gathered one
 abbrev pub side_gathering : Side → Side → Side
-side_gathering s w = record s { share = s.share + w.share; gathered = s.gathered ++ record { core = w.name.core; diary = w.diary } ∷ [] }
+side_gathering s w = record s { share = s.share + w.share; gathered = s.gathered ++ record { core = w.name.core; diaries = w.diaries } ∷ [] }
 
 abbrev pub side_gone : Side → Side
 side_gone w = record w { gone = true; share = 0 }

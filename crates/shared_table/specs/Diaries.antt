@@ -1,5 +1,5 @@
--- The events and the active PEIs of one core, and what a core's diary says of the shared value.
-use Rattle.std.specs.Prelude.{◌≡◌, ℕ, ◌-◌, ◌<◌, ◌==◌, List, [], ◌∷◌, ◌++◌, if◌then◌else◌}
+-- The events and the active PEIs of one core, and what a core's diary says of a bank's value.
+use Rattle.std.specs.Prelude.{◌≡◌, ℕ, zero, suc, ◌-◌, ◌<◌, ◌==◌, List, [], ◌∷◌, ◌++◌, drop, slice_index_or, if◌then◌else◌}
 use mathlib.Core.Option.{some}
 use lib.ListN.{get_elem?}
 use Rattle.pei_types.specs.declared.events.Event.{Event}
@@ -21,6 +21,18 @@ active_of c (a ∷ rest) = if a.core.0 == c then (a ∷ active_of c rest) else a
 -- the log begins with what was seen
 abbrev pub StartsWith : List Event → List Event → Type 0
 StartsWith log seen = (rest : List Event) × (log ≡ seen ++ rest)
+
+abbrev pub no_diary : Diary
+no_diary = record { mine = []; seen = []; active = [] }
+
+-- the diary of the bank b
+abbrev pub diary_of : ℕ → List Diary → Diary
+diary_of b diaries = slice_index_or diaries b no_diary
+
+-- the diaries once that of the bank b is d
+abbrev pub filed : ℕ → Diary → List Diary → List Diary
+filed zero d diaries = d ∷ drop 1 diaries
+filed (suc b) d diaries = diary_of 0 diaries ∷ filed b d (drop 1 diaries)
 
 -- the core's events and active PEIs are these, and the log goes on from what was seen
 abbrev pub Fits : List Event → List Active → ℕ → Diary → Type 0

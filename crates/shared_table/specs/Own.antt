@@ -1,5 +1,5 @@
 -- What a seat has, and what it keeps of it beside its view.
-use Rattle.std.specs.Prelude.{◌≡◌, ◌≢◌, ℕ, ◌-◌, ◌<◌, Bool, true, false, List, [], ◌∷◌, length, Option, None}
+use Rattle.std.specs.Prelude.{◌≡◌, ◌≢◌, ℕ, zero, suc, ◌-◌, ◌<◌, ◌≤◌, Bool, true, false, List, [], ◌∷◌, length, Option, None}
 use mathlib.Core.Option.{some}
 use lib.ListN.{get_elem?}
 use Rattle.atomic_table.specs.Table.{Me}
@@ -7,7 +7,9 @@ use Rattle.pei_types.specs.declared.operations.Mode.{Mode}
 use Rattle.shared_table.specs.declared.claims.Active.{Active}
 use Rattle.shared_table.specs.declared.claims.Claim.{Claim}
 use Rattle.shared_table.specs.declared.claims.Claim.TheVariants.{Free, Announced, Held}
+use Rattle.shared_table.specs.declared.claims.Side.{Side}
 use Rattle.shared_table.specs.declared.claims.Knowledge.{Knowledge}
+use Rattle.shared_table.specs.Diaries.{diary_of}
 
 -- the lane has this claim
 abbrev pub Has : List Claim → ℕ → Claim → Type 0
@@ -41,10 +43,19 @@ IsQuiet entered lane Free = Unit {0}
 IsQuiet entered lane (Announced d) = Unit {0}
 IsQuiet entered lane (Held d m) = IsIdle entered lane
 
--- the slots that a seat has: with the slot out, an empty one
-abbrev pub slots_of : {S : Type 0} → Bool → List (ℕ × Option S)
-slots_of true = (0, None) ∷ []
-slots_of false = []
+-- whether a seat with this turn has a slot
+abbrev pub has_slot : ℕ → Bool
+has_slot zero = false
+has_slot (suc b) = true
+
+-- the slots that a seat has: with the slot of a bank out, an empty one
+abbrev pub slots_of : {S : Type 0} → ℕ → List (ℕ × Option S)
+slots_of zero = []
+slots_of (suc b) = (b, None) ∷ []
+
+-- a seat that was in no bank but the first
+abbrev pub StaysFirst : Side → Type 0
+StaysFirst s = (s.turn ≤ 1) × ((b : ℕ) → (diary_of (suc b) s.diaries).active ≡ [])
 
 -- a seat that may step, and stands for its core alone
 pub record IsSteady {S : Type 0} (me : Me (Option S) Knowledge) (core : ℕ) : Type 0 where
@@ -53,6 +64,7 @@ pub record IsSteady {S : Type 0} (me : Me (Option S) Knowledge) (core : ℕ) : T
   pub gathered : me.0.side.gathered ≡ []
   pub number : me.0.side.name.core ≡ core
   pub slots : me.1 ≡ slots_of me.0.side.turn
+  pub first : StaysFirst me.0.side
 
 -- the entry that a claim is on
 abbrev pub place_of : Claim → ℕ

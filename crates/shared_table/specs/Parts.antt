@@ -1,5 +1,6 @@
 -- The parts of what a seat knows, each by its name, and how a step changes them. The table that it is of is the field
--- `table`, as it is of a table and of a list of seats. A contract names a seat's parts by these words alone.
+-- `table`, as it is of a table and of a list of seats. A contract names a seat's parts by these words alone. What a core
+-- has of the shared value is what it has of the one bank, number 0.
 use Rattle.std.specs.Prelude.{◌≡◌, ℕ, ◌+◌, ◌-◌, Bool, List}
 use Rattle.pei_types.specs.declared.events.Event.{Event}
 use Rattle.shared_table.specs.declared.claims.Active.{Active}
@@ -7,7 +8,8 @@ use Rattle.shared_table.specs.declared.claims.Claim.{Claim}
 use Rattle.shared_table.specs.declared.claims.Look.{Look}
 use Rattle.shared_table.specs.Place.{SeatView}
 use Rattle.shared_table.specs.Claims.{with_claim, with_look, with_slot, given_back}
-use Rattle.shared_table.specs.Diaries.{events_of, active_of, StartsWith}
+use Rattle.shared_table.specs.Diaries.{events_of, active_of, diary_of, StartsWith}
+use Rattle.shared_table.specs.Own.{has_slot}
 
 -- the number of its core
 abbrev pub core_number : SeatView → ℕ
@@ -19,19 +21,19 @@ claims s = s.knows.claims
 
 -- its core's events
 abbrev pub mine : SeatView → List Event
-mine s = s.knows.side.diary.mine
+mine s = (diary_of 0 s.knows.side.diaries).mine
 
 -- the log that it last saw
 abbrev pub seen : SeatView → List Event
-seen s = s.knows.side.diary.seen
+seen s = (diary_of 0 s.knows.side.diaries).seen
 
 -- its core's active PEIs
 abbrev pub active : SeatView → List Active
-active s = s.knows.side.diary.active
+active s = (diary_of 0 s.knows.side.diaries).active
 
 -- whether it has the slot
 abbrev pub turn : SeatView → Bool
-turn s = s.knows.side.turn
+turn s = has_slot s.knows.side.turn
 
 -- the active PEIs of all cores when it last took the slot
 abbrev pub lent : SeatView → List Active
@@ -59,11 +61,11 @@ look_made s e loaded found = record s { knows = record (with_look s.knows e load
 
 -- a seat that took the slot, whose value has this log and these active PEIs
 abbrev pub slot_taken : SeatView → List Event → List Active → SeatView
-slot_taken s log as_lent = record s { knows = with_slot s.knows log as_lent }
+slot_taken s log as_lent = record s { knows = with_slot s.knows 0 log as_lent }
 
 -- a seat that gave the slot back so
 abbrev pub slot_given : SeatView → List Event → List Active → SeatView
-slot_given s log left = record s { knows = given_back s.knows log left }
+slot_given s log left = record s { knows = given_back s.knows 0 log left }
 
 -- The log has of the seat's core the events that the seat has, and begins with the log that the seat saw. Of the active
 -- PEIs, those of its core are the seat's.

@@ -1,4 +1,4 @@
--- Where the shared value is, and what all seats know of it.
+-- Where the shared value of each bank is, and what all seats know of it.
 use Rattle.std.specs.Prelude.{◌≡◌, ◌≢◌, ◌⊎◌, ℕ, ◌+◌, ◌<◌, List, [], ◌∷◌, ◌++◌, true, false, Option, Some}
 use mathlib.Core.Option.{some, none}
 use mathlib.Core.Option as maybe
@@ -10,7 +10,7 @@ use Rattle.shared_table.specs.declared.claims.Gathered.{Gathered}
 use Rattle.shared_table.specs.declared.claims.Side.{Side}
 use Rattle.shared_table.specs.Sums.{total}
 use Rattle.shared_table.specs.Actives.{active_in}
-use Rattle.shared_table.specs.Diaries.{events_of, active_of, Fits}
+use Rattle.shared_table.specs.Diaries.{events_of, active_of, diary_of, Fits}
 
 -- a fact of each item, at its place
 abbrev pub Each : {A : Type 0} → (ℕ → A → Type 0) → List A → Type 0
@@ -37,7 +37,7 @@ pub record Numbered (cores : ℕ) (sides : List Side) : Type 0 where
 
 -- the gathered seat is one of these, and stays as it is
 abbrev pub IsGone : List Side → Gathered → Type 0
-IsGone sides g = (at : ℕ) × (s : Side) × (get_elem? sides at ≡ some s) × (s.gone ≡ true) × (s.name.core ≡ g.core) × (s.diary ≡ g.diary)
+IsGone sides g = (at : ℕ) × (s : Side) × (get_elem? sides at ≡ some s) × (s.gone ≡ true) × (s.name.core ≡ g.core) × (s.diaries ≡ g.diaries)
 
 -- what the core c may give back: a log that goes on by events of its own, the active PEIs of the other cores as they were, and in all those of the log
 pub record Returns (entries c : ℕ) (seen : List Event) (lent : List Active) (l : List Event) (a : List Active) : Type 0 where
@@ -56,25 +56,30 @@ abbrev pub SameOthers : ℕ → List Active → List Active → Type 0
 SameOthers c lent a = (d : ℕ) → d ≢ c → active_of d a ≡ active_of d lent
 
 module _ {S : Type 0} (log : S → List Event) (active : S → List Active) where
-  -- at home under the turn word 0, or out with one seat
-  abbrev pub AtHome : ℕ → List (maybe.Option (Option S)) → List Side → List Event → List Active → Type 0
-  AtHome turn homes sides l a = (x : S) × (turn ≡ 0) × (homes ≡ some (Some x) ∷ []) × (log x ≡ l) × (active x ≡ a) × Each (λ _ s. s.turn ≡ false) sides
+  -- the value of the bank b, at home under the turn word 0
+  abbrev pub AtHome : ℕ → ℕ → List (maybe.Option (Option S)) → List Side → List Event → List Active → Type 0
+  AtHome b turn homes sides l a = (x : S) × (turn ≡ 0) × (get_elem? homes b ≡ some (some (Some x))) × (log x ≡ l) × (active x ≡ a) × Each (λ _ s. s.turn ≢ b + 1) sides
 
-  abbrev pub IsOut : ℕ → List (maybe.Option (Option S)) → List Side → List Event → List Active → Type 0
-  IsOut turn homes sides l a = (holder : ℕ) × (s : Side) × (get_elem? sides holder ≡ some s) × (s.turn ≡ true) × (turn ≡ s.name.core + 1) × (homes ≡ none ∷ []) × (s.diary.seen ≡ l) × (s.lent ≡ a)
-      × Each (λ i u. i ≢ holder → u.turn ≡ false) sides
+  -- the value of the bank b, out with one seat
+  abbrev pub IsOut : ℕ → ℕ → List (maybe.Option (Option S)) → List Side → List Event → List Active → Type 0
+  IsOut b turn homes sides l a = (holder : ℕ) × (s : Side) × (get_elem? sides holder ≡ some s) × (s.turn ≡ b + 1) × (turn ≡ s.name.core + 1) × (get_elem? homes b ≡ some none) × ((diary_of b s.diaries).seen ≡ l) × (s.lent ≡ a)
+      × Each (λ i u. i ≢ holder → u.turn ≢ b + 1) sides
 
-  -- The log `l` and the active PEIs `a`, whoever has the value. Seats have numbers of their own, the value is at home or
-  -- out, the active PEIs are those of the log, each seat has its own events and active PEIs of them and has seen a prefix
-  -- of the log, a core without a seat has none, and seats that were gathered are listed and step no more.
-  pub record Slotted (entries cores turn : ℕ) (homes : List (maybe.Option (Option S))) (sides : List Side) : Type 0 where
+  abbrev pub IsPlaced : ℕ → ℕ → List (maybe.Option (Option S)) → List Side → List Event → List Active → Type 0
+  IsPlaced b turn homes sides l a = AtHome b turn homes sides l a ⊎ IsOut b turn homes sides l a
+
+  -- The log `l b` and the active PEIs `a b` of each bank b, whoever has its value. Seats have numbers of their own. For each
+  -- bank, the value is at home or out, the active PEIs are those of the log, each seat has its own events and active PEIs
+  -- of them and has seen a prefix of the log, and a core without a seat has none. Seats that were gathered are listed and
+  -- step no more.
+  pub record Slotted (entries cores banks : ℕ) (turn : ℕ → ℕ) (homes : List (maybe.Option (Option S))) (sides : List Side) : Type 0 where
     pub numbered : Numbered cores sides
-    pub l : List Event
-    pub a : List Active
-    pub whole : a ≡ active_in entries l
-    pub place : AtHome turn homes sides l a ⊎ IsOut turn homes sides l a
-    pub fits : Each (λ _ s. Fits l a s.name.core s.diary) sides
-    pub strays : (c : ℕ) → Each (λ _ s. s.name.core ≢ c) sides → (events_of c l ≡ []) × (active_of c a ≡ [])
+    pub l : ℕ → List Event
+    pub a : ℕ → List Active
+    pub whole : (b : ℕ) → b < banks → a b ≡ active_in entries (l b)
+    pub place : (b : ℕ) → b < banks → IsPlaced b (turn b) homes sides (l b) (a b)
+    pub fits : Each (λ _ s. (b : ℕ) → b < banks → Fits (l b) (a b) s.name.core (diary_of b s.diaries)) sides
+    pub strays : (c : ℕ) → Each (λ _ s. s.name.core ≢ c) sides → (b : ℕ) → b < banks → (events_of c (l b) ≡ []) × (active_of c (a b) ≡ [])
     pub shares : total (λ s. s.share + s.name.spare) sides ≡ cores
-    pub parts : Each (λ _ s. (s.gone ≡ false → 0 < s.share) × (s.gone ≡ true → s.turn ≡ false)) sides
+    pub parts : Each (λ _ s. (s.gone ≡ false → 0 < s.share) × (s.gone ≡ true → s.turn ≡ 0)) sides
     pub gathered : Each (λ _ s. Each (λ _ g. IsGone sides g) s.gathered) sides

@@ -33,7 +33,7 @@ pub struct Look {
     pub found: u64,
 }
 
-/// What a core has of the shared value: its events, the log that it last saw, and its active PEIs.
+/// What a core has of the value of one bank: its events, the log that it last saw, and its active PEIs.
 pub struct Diary {
     pub mine: LinkedList<Event>,
     pub seen: LinkedList<Event>,
@@ -43,15 +43,16 @@ pub struct Diary {
 /// What a seat that gathers others knows of one of them.
 pub struct Gathered {
     pub core: u8,
-    pub diary: Diary,
+    pub diaries: LinkedList<Diary>,
 }
 
-/// What a step on a directory word leaves as it is: the seat's number, its events and active PEIs, and the slot.
+/// What a step on a directory word leaves as it is: the seat's number, its events and active PEIs, and its slot.
 pub struct Side {
     pub name: Name,
-    pub diary: Diary,
-    /// Whether the seat has the slot.
-    pub turn: bool,
+    /// One for each bank, in order. A bank behind the last has an empty one.
+    pub diaries: LinkedList<Diary>,
+    /// 0 for a seat that has no slot, and otherwise one more than the number of the bank whose slot it has.
+    pub turn: u8,
     /// The active PEIs of the value when the seat last took the slot.
     pub lent: LinkedList<Active>,
     /// Whether the seat was gathered. Then it makes no more steps.
@@ -70,9 +71,10 @@ pub struct Knowledge {
     pub moves: u64,
 }
 
-/// How many entries and cores a table has.
+/// How many entries, cores and banks a table has. Each bank has a turn word and a slot.
 #[derive(Drop)]
 pub struct Shape {
     pub entries: u32,
     pub cores: u8,
+    pub banks: u8,
 }

@@ -1,10 +1,11 @@
 //! The end of a table: one seat gathers all others, and takes the value out.
-ghost use Rattle.std.specs.Prelude.{◌≡◌, ◌≢◌, ℕ, ◌+◌, ◌∷◌, [], length, map, true, false, Some};
+ghost use Rattle.std.specs.Prelude.{◌≡◌, ◌≢◌, ℕ, ◌+◌, ◌<◌, ◌≤◌, ◌∷◌, [], length, map, slice_index_or, true, false, Some};
 ghost use mathlib.Core.Option.{some};
 ghost use lib.ListN.{get_elem?};
 ghost use Rattle.shared_table.specs.Claims.{gathering, once_gone};
 ghost use Rattle.shared_table.specs.Closing.{AllIdle, gather_all};
-ghost use Rattle.shared_table.specs.Diaries.{Fits};
+ghost use Rattle.std.specs.Slots.{slots_filled, slots_len};
+ghost use Rattle.shared_table.specs.Diaries.{Fits, diary_of};
 ghost use Rattle.shared_table.specs.Parts.{turn, FitsSeat};
 ghost use Rattle.shared_table.specs.Place.{SeatView, AllOf};
 ghost use Rattle.shared_table.specs.declared.claims.Gathered.{Gathered};
@@ -14,17 +15,31 @@ use crate::plays::{Aim, Gathering};
 use crate::receipt::Receipt;
 use crate::rule::Shared;
 use crate::seats::Seats;
+use crate::slot::FIRST_BANK;
 use crate::table::{CoreSeat, Place, SharedTable};
+use atomic_table::Closed;
+use std::alloc::Global;
 use std::collections::VecDeque;
 use std::marker::Brand;
 use std::snapshot::Snapshot;
+
+// Drops the values that are left in the slots behind the first.
+fn drop_rest<T: Drop>(mut closed: Closed<T, Global>)
+    requires first { slice_index_or (slots_filled closed.slots) 0 false ≡ false }
+    requires rest { (k : ℕ) → 1 ≤ k → k < slots_len closed.slots → slice_index_or (slots_filled closed.slots) k false ≡ true }
+{
+    for bank in 1..closed.slot_count() {
+        drop(closed.take(bank));
+    }
+    closed.free();
+}
 
 impl<S: Shared> SharedTable<S> {
     // One seat comes to stand for the cores of another. It leaves the other the view that the caller picks.
     fn gather<B: Aim>(&self, first: &mut Place<S>, other: Place<S>)
         requires table { (first.old.table_id ≡ self.now.table) × (other.table_id ≡ self.now.table) }
         requires steps { (first.old.me.0.side.gone ≡ false) × (other.me.0.side.gone ≡ false) }
-        requires idle { (other.me.0.side.turn ≡ false) × (other.me.1 ≡ []) }
+        requires idle { (other.me.0.side.turn ≡ 0) × (other.me.1 ≡ []) }
         requires aim { B.aim ≡ once_gone other.me.0 }
         ensures same { first.new.table_id ≡ first.old.table_id }
         ensures view { first.new.me ≡ (gathering first.old.me.0 other.me.0, first.old.me.1) }
@@ -98,14 +113,14 @@ impl<S: Shared> SharedTable<S> {
     fn into_value(self, last: Place<S>) -> S
         requires table { last.table_id ≡ self.table }
         requires all { last.me.0.side.share ≡ self.cores }
-        requires idle { last.me.0.side.turn ≡ false }
-        ensures own { Fits (S.log result) (S.active result) last.me.0.side.name.core last.me.0.side.diary }
-        ensures gathered { (i : ℕ) (g : Gathered) → get_elem? last.me.0.side.gathered i ≡ some g → Fits (S.log result) (S.active result) g.core g.diary }
+        requires idle { last.me.0.side.turn ≡ 0 }
+        ensures own { Fits (S.log result) (S.active result) last.me.0.side.name.core (diary_of 0 last.me.0.side.diaries) }
+        ensures gathered { (i : ℕ) (g : Gathered) → get_elem? last.me.0.side.gathered i ≡ some g → Fits (S.log result) (S.active result) g.core (diary_of 0 g.diaries) }
     {
         let SharedTable { table } = self;
         let mut closed = table.close_with(last);
-        let value = closed.take(0);
-        closed.free();
+        let value = closed.take(FIRST_BANK);
+        drop_rest(closed);
         value.unwrap()
     }
 }

@@ -1,14 +1,15 @@
 //! The directory words that all cores step on, the seats of the cores, and the calls that step on one word.
 //!
 //! The first eight words are turn words, one for each bank that a machine may have, and the next is kept for stamps.
-//! The directory words stand behind them. With one bank, only the first turn word is used: it is 0 while the shared value
-//! lies in the slot, and otherwise one more than the number of the core that has it.
+//! The directory words stand behind them. A bank's turn word is 0 while the bank's value lies in its slot, and otherwise
+//! one more than the number of the core that has it. A table is made with one bank, so only the first turn word is used.
 
-ghost use Rattle.std.specs.Prelude.{◌≡◌, ◌≢◌, ◌-◌, ◌+◌, ◌<◌, ◌≤◌, List, [], IfOk, IsTrue, false};
+ghost use Rattle.std.specs.Prelude.{◌≡◌, ◌≢◌, ℕ, ◌-◌, ◌+◌, ◌<◌, ◌≤◌, List, [], IfOk, IsTrue, false};
 ghost use Rattle.atomic_table.specs.Seated.{TableId};
 ghost use Rattle.pei_types.specs.Claims.{Claims, word_of_claims, is_granted, with_claim as claims_granted};
 ghost use Rattle.pim_directory.specs.Words.{IsPacked};
 ghost use Rattle.shared_table.specs.Claims.{weight, before_grant, with_claim, with_look, looked_at, one_given, next_seat};
+ghost use Rattle.shared_table.specs.Diaries.{diary_of};
 ghost use Rattle.shared_table.specs.Rule.{Shows, first_view};
 ghost use Rattle.shared_table.specs.Place.{seat_view, all_seats};
 ghost use Rattle.shared_table.specs.Own.{Has, IsHolding, IsWaiting, IsWithin, IsIdle, IsQuiet, place_of};
@@ -41,14 +42,14 @@ pub struct SharedTable<S: Shared> {
 }
 
 impl<S: Shared> Model for SharedTable<S> {
-    ghost use Rattle.std.specs.Prelude.{◌≡◌, ◌+◌, ◌<◌};
+    ghost use Rattle.std.specs.Prelude.{◌≡◌, ◌+◌, ◌<◌, ◌≤◌};
     ghost use Rattle.shared_table.specs.Place.{TablePlace};
 
     ghost Value = { TablePlace };
 
     ghost view = { λ t. record { table = t.table.shared.table_id; entries = t.table.shared.key.entries; cores = t.table.shared.key.cores } };
 
-    ghost invariant = { λ t. (t.table.shared.table_id.words ≡ t.table.shared.key.entries + 9) × (0 < t.table.shared.key.cores) × (t.table.shared.table_id.slots ≡ 1) };
+    ghost invariant = { λ t. (t.table.shared.table_id.words ≡ t.table.shared.key.entries + 9) × (0 < t.table.shared.key.cores) × (t.table.shared.table_id.slots ≡ t.table.shared.key.banks) × (0 < t.table.shared.key.banks) × (t.table.shared.key.banks ≤ 8) };
 }
 
 /// What a core steps with: what its lanes have of the directory, and whether it has the slot.
@@ -125,6 +126,7 @@ impl<S: Shared> SharedTable<S> {
         shared: S,
     ) -> Result<(SharedTable<S>, Place<S>), OutOfMemory>
         requires cores { (0 < about.now.cores) × (about.now.cores ≤ 8) }
+        requires bank { about.now.banks ≡ 1 }
         requires shared { (S.log shared ≡ []) × (S.active shared ≡ []) }
         ensures table { IfOk result (λ r. (r.0.entries ≡ about.now.entries) × (r.0.cores ≡ about.now.cores)) }
         ensures seat { IfOk result (λ r. (r.1.table_id ≡ r.0.table) × (r.1.me ≡ (first_view about.now, []))) }
@@ -176,7 +178,11 @@ impl<S: Shared> SharedTable<S> {
         let Ok(mut list) = VecDeque::with_capacity(alloc, 8) else {
             return Err(OutOfMemory);
         };
-        let about = Shape { entries, cores };
+        let about = Shape {
+            entries,
+            cores,
+            banks: 1,
+        };
         let (table, mut first) = SharedTable::lay(alloc, &about, shared)?;
         for number in 1..cores {
             list.push_back_reserved(table.split_off(&mut first, number));
@@ -207,7 +213,7 @@ impl<S: Shared> SharedTable<S> {
     // The step that takes a claim away. It leaves the view that the caller picks.
     fn free_at<B: Aim>(&self, seat: &mut Place<S>, lane: Lane, claim: Claim)
         requires table { seat.old.table_id ≡ self.now.table }
-        requires entry { IsWithin self.now.entries claim × (claim ≢ Free) × IsQuiet seat.old.me.0.side.diary.active lane.0 claim }
+        requires entry { IsWithin self.now.entries claim × (claim ≢ Free) × ((b : ℕ) → IsQuiet (diary_of b seat.old.me.0.side.diaries).active lane.0 claim) }
         requires lane { Has seat.old.me.0.claims lane.0 claim }
         requires aim { B.aim ≡ with_claim seat.old.me.0 (lane.0 - 1) Free }
         ensures same { seat.new.table_id ≡ seat.old.table_id }
