@@ -1,5 +1,5 @@
 -- What the seat knows that gathered all others.
-use Rattle.std.proofs.Common.{◌≡◌, ℕ, zero, suc, List, [], ◌∷◌, ◌++◌, map, refl, ap, sym, ◌∙◌, subst, append_assoc}
+use Rattle.std.proofs.Common.{◌≡◌, ◌≢◌, ℕ, zero, suc, List, [], ◌∷◌, ◌++◌, map, refl, ap, sym, ◌∙◌, subst, append_assoc}
 use mathlib.Core.Option.{some, some-injective}
 use lib.ListN.{get_elem?}
 use Rattle.atomic_table.proofs.Lists.{at_map}
@@ -9,10 +9,11 @@ use Rattle.shared_table.specs.declared.claims.Diary.{Diary}
 use Rattle.shared_table.specs.declared.claims.Gathered.{Gathered}
 use Rattle.shared_table.specs.declared.claims.Knowledge.{Knowledge}
 use Rattle.shared_table.specs.Claims.{gathering}
-use Rattle.shared_table.specs.Closing.{gather_all}
+use Rattle.shared_table.specs.Closing.{IsAbsent, gather_all}
 use Rattle.shared_table.specs.Diaries.{Fits, diary_of}
 use Rattle.shared_table.specs.Place.{SeatView}
 use Rattle.shared_table.specs.Receipts.{seat_account, gathered_account, accounts}
+use Rattle.shared_table.proofs.Pairs.{at_unmap}
 
 module _ {A : Type 0} (P : A → Type 0) where
   pub head_of : (xs ys : List A) (s : A) → xs ≡ s ∷ ys → ((i : ℕ) (u : A) → get_elem? xs i ≡ some u → P u) → P s
@@ -63,6 +64,15 @@ all_seen l a v last s xs ss is ends same none own others = subst (λ (zs : List 
           (ap (λ (w : Knowledge). w.side.diaries) ends ∙ gather_diaries v ss ∙ ap (λ (w : Knowledge). w.side.diaries) same ∙ ap (λ (w : SeatView). w.knows.side.diaries) (some-injective s u e)) j,
         )) own
     each (suc i) u e = others i (entry u) (ap (λ (gs : List Gathered). get_elem? gs i) (ap (λ (w : Knowledge). w.side.gathered) ends ∙ gather_list v ss [] none) ∙ at_map entry ss i u e)
+
+-- a core of no seat is neither the last one's nor listed by it
+pub none_absent : (c : ℕ) (v last : Knowledge) (s : SeatView) (xs ss : List SeatView) → xs ≡ s ∷ ss → last ≡ gather_all v ss → v ≡ s.knows → v.side.gathered ≡ [] → IsAbsent c xs
+    → (last.side.name.core ≢ c) × ((i : ℕ) (g : Gathered) → get_elem? last.side.gathered i ≡ some g → g.core ≢ c)
+none_absent c v last s xs ss is ends same none absent = (
+  (λ q. absent 0 s (ap (λ (l : List SeatView). get_elem? l 0) is) (sym (ap (λ (w : Knowledge). w.side.name.core) ends ∙ gather_core v ss ∙ ap (λ (w : Knowledge). w.side.name.core) same) ∙ q)),
+  (λ i g e q. let t = at_unmap entry ss i g (sym (ap (λ (gs : List Gathered). get_elem? gs i) (ap (λ (w : Knowledge). w.side.gathered) ends ∙ gather_list v ss [] none)) ∙ e) in
+      absent (suc i) t.0 (ap (λ (l : List SeatView). get_elem? l (suc i)) is ∙ t.1) (ap (λ (d : Gathered). d.core) t.2 ∙ q)),
+)
 
 map_accounts : (ss : List SeatView) → map gathered_account (map entry ss) ≡ map seat_account ss
 map_accounts [] = refl

@@ -1,11 +1,11 @@
 -- Steps keep what all seats know of the banks' values.
-use Rattle.std.proofs.Common.{◌≡◌, ◌≢◌, ℕ, ◌+◌, ◌<◌, Bool, true, false, true≢false, List, [], ◌∷◌, ◌++◌, set, refl, ap, sym, ◌∙◌, subst, inl, inr, ⊎_elim, arith, Option, Some, append-nil}
+use Rattle.std.proofs.Common.{◌≡◌, ◌≢◌, ℕ, ◌+◌, ◌<◌, Bool, true, false, true≢false, List, [], ◌∷◌, ◌++◌, length, set, refl, ap, sym, ◌∙◌, subst, inl, inr, ⊎_elim, arith, Option, Some, append-nil}
 use mathlib.Core.Logic.{dite}
 use mathlib.Core.Option.{some, none, some-injective, some-ne-none}
 use mathlib.Core.Option as maybe
 use native.Mathlib.Decide.{ℕ_discrete}
 use lib.ListN.{get_elem?}
-use Rattle.atomic_table.proofs.Lists.{at_set, set_here, set_else, at_longer}
+use Rattle.atomic_table.proofs.Lists.{at_set, set_here, set_else, at_longer, at_last}
 use Rattle.pei_types.specs.declared.events.Event.{Event}
 use Rattle.shared_table.specs.declared.claims.Active.{Active}
 use Rattle.shared_table.specs.declared.claims.Name.{Name}
@@ -15,7 +15,7 @@ use Rattle.shared_table.specs.declared.claims.Side.{Side}
 use Rattle.shared_table.specs.Claims.{new_side, side_given, side_taking, side_giving, side_gathering, side_gone}
 use Rattle.shared_table.specs.Actives.{active_in}
 use Rattle.shared_table.specs.Diaries.{events_of, active_of, diary_of, Fits}
-use Rattle.shared_table.specs.Slot.{Each, Differ, IsNamed, Numbered, IsGone, AtHome, IsOut, IsPlaced, Slotted, Returns}
+use Rattle.shared_table.specs.Slot.{Each, Differ, IsNamed, Numbered, IsGone, IsListed, AtHome, IsOut, IsPlaced, Slotted, Returns}
 use Rattle.shared_table.proofs.Totals.{total_set, total_push, total_two, at_inside}
 use Rattle.shared_table.proofs.Pairs.{each_set, each_push, pairs_set, pairs_push}
 use Rattle.shared_table.proofs.Diaries.{events_of-append, starts_trans, filed_here, filed_else, filed_each, instead, instead_each}
@@ -31,6 +31,19 @@ bool_cases false t f = f refl
 pub still_gone : (sides : List Side) (id : ℕ) (s s' : Side) (g : Gathered) → get_elem? sides id ≡ some s → s.gone ≡ false → IsGone sides g → IsGone (set sides id s') g
 still_gone sides id s s' g at here t = let other : t.0 ≢ id = λ e. opposite t.1.gone t.3 (ap (λ (x : Side). x.gone) (some-injective t.1 s (sym t.2 ∙ ap (get_elem? sides) e ∙ at)) ∙ here) in
     (t.0, t.1, set_else sides id t.0 s' other ∙ t.2, t.3, t.4, t.5)
+
+-- a core that is listed stays listed
+pub still_listed : (sides : List Side) (id : ℕ) (s s' : Side) (c : ℕ) → get_elem? sides id ≡ some s → s'.gone ≡ false → ((i : ℕ) (g : Gathered) → get_elem? s.gathered i ≡ some g → get_elem? s'.gathered i ≡ some g) → IsListed sides c → IsListed (set sides id s') c
+still_listed sides id s s' c at here more t = dite (ℕ_discrete t.0 id)
+    (λ q. let is : t.1 ≡ s = some-injective t.1 s (sym t.2 ∙ ap (get_elem? sides) q ∙ at) in
+    (id, s', set_here sides id s' (at_inside sides id s at), here, t.4, t.5, more t.4 t.5 (subst (λ (u : Side). get_elem? u.gathered t.4 ≡ some t.5) is t.6), t.7))
+    (λ q. (t.0, t.1, set_else sides id t.0 s' q ∙ t.2, t.3, t.4, t.5, t.6, t.7))
+
+-- a seat that lists nobody may go
+pub others_list : (sides : List Side) (id : ℕ) (s s' : Side) (c : ℕ) → get_elem? sides id ≡ some s → s.gathered ≡ [] → IsListed sides c → IsListed (set sides id s') c
+others_list sides id s s' c at none_listed t = let other : t.0 ≢ id = λ q.
+    let is : t.1 ≡ s = some-injective t.1 s (sym t.2 ∙ ap (get_elem? sides) q ∙ at) in some-ne-none t.5 (sym (subst (λ (l : List Gathered). get_elem? l t.4 ≡ some t.5) (ap (λ (u : Side). u.gathered) is ∙ none_listed) t.6)) in
+    (t.0, t.1, set_else sides id t.0 s' other ∙ t.2, t.3, t.4, t.5, t.6, t.7)
 
 -- who is absent afterwards was absent before
 pub was_absent : (sides : List Side) (id : ℕ) (s s' : Side) (c : ℕ) → get_elem? sides id ≡ some s → s'.name.core ≡ s.name.core → Each (λ _ u. u.name.core ≢ c) (set sides id s') → Each (λ _ u. u.name.core ≢ c) sides
@@ -71,6 +84,8 @@ module _ {S : Type 0} (log : S → List Event) (active : S → List Active) (ent
         ((λ _. subst (λ (n : ℕ). 0 < n) (sym share) ((r.parts id s at).0 here)), λ h. absurd (opposite s'.gone h here'));
     gathered = each_set (λ _ u. Each (λ _ g. IsGone (set sides id s') g) u.gathered) sides id s' (λ j b _ e i g f. still_gone sides id s s' g at here (r.gathered j b e i g f))
         (λ i g f. still_gone sides id s s' g at here (r.gathered id s at i g (subst (λ (z : List Gathered). get_elem? z i ≡ some g) gathered f)));
+    listed = each_set (λ _ u. u.gone ≡ true → IsListed (set sides id s') u.name.core) sides id s'
+        (λ j b _ e h. still_listed sides id s s' b.name.core at here' (λ i g f. subst (λ (z : List Gathered). get_elem? z i ≡ some g) (sym gathered) f) (r.listed j b e h)) (λ h. absurd (opposite s'.gone h here'));
   }
 
   -- other words, among them the same turn words
@@ -86,6 +101,7 @@ module _ {S : Type 0} (log : S → List Event) (active : S → List Active) (ent
     shares = r.shares;
     parts = r.parts;
     gathered = r.gathered;
+    listed = r.listed;
   }
 
   -- a bank whose slot the seat has neither before its step nor after
@@ -233,13 +249,17 @@ module _ {S : Type 0} (log : S → List Event) (active : S → List Active) (ent
             each_push (λ _ u. Each (λ _ g. IsGone (set sides id y ++ z ∷ []) g) u.gathered) (set sides id y) z
             (each_set (λ _ u. Each (λ _ g. IsGone (set sides id y ++ z ∷ []) g) u.gathered) sides id y (λ j b _ e i g f. stays g (r.gathered j b e i g f)) (λ i g f. stays g (r.gathered id s at i g f)))
             (λ i g f. absurd (some-ne-none g (sym f)));
+        listed = let stays : (c : ℕ) → IsListed sides c → IsListed (set sides id y ++ z ∷ []) c =
+            λ c h. let t = still_listed sides id s y c at here (λ i g f. f) h in (t.0, t.1, at_longer (set sides id y) (z ∷ []) t.0 t.1 t.2, t.3, t.4, t.5, t.6, t.7) in
+            let P : ℕ → Side → Type 0 = λ _ u. u.gone ≡ true → IsListed (set sides id y ++ z ∷ []) u.name.core in
+            each_push P (set sides id y) z (each_set P sides id y (λ j u _ e h. stays u.name.core (r.listed j u e h)) (λ h. absurd (opposite s.gone h here))) (λ h. absurd (true≢false (sym h)));
       }
 
   -- a seat gathers another
   pub joins_slot : (turn : ℕ → ℕ) (homes : Homes) (sides : List Side) (id other : ℕ) (s w : Side) → Slotted log active entries cores banks turn homes sides → get_elem? sides id ≡ some s → s.gone ≡ false → other ≢ id
-      → get_elem? (set sides id (side_gathering s w)) other ≡ some w → w.gone ≡ false → w.turn ≡ 0
+      → get_elem? (set sides id (side_gathering s w)) other ≡ some w → w.gone ≡ false → w.turn ≡ 0 → w.gathered ≡ []
       → Slotted log active entries cores banks turn homes (set (set sides id (side_gathering s w)) other (side_gone w))
-  joins_slot turn homes sides id other s w r at here apart at' there idle =
+  joins_slot turn homes sides id other s w r at here apart at' there idle alone =
       let s' : Side = side_gathering s w in let w' : Side = side_gone w in let one : List Side = set sides id s' in let two : List Side = set one other w' in
       let stays : (g : Gathered) → IsGone sides g → IsGone two g = λ g h. still_gone one other w w' g at' there (still_gone sides id s s' g at here h) in
       let at_w : get_elem? sides other ≡ some w = sym (set_else sides id other s' apart) ∙ at' in record {
@@ -258,15 +278,33 @@ module _ {S : Type 0} (log : S → List Event) (active : S → List Active) (ent
             each_set P one other w' (λ j b _ e. each_set P sides id s' (λ i c _ f k g q. stays g (r.gathered i c f k g q))
             (each_push (λ _ g. IsGone two g) s.gathered _ (λ k g q. stays g (r.gathered id s at k g q)) (other, w', set_here one other w' (at_inside one other w at'), refl, refl, refl)) j b e)
             (λ k g q. stays g (r.gathered other w at_w k g q));
+        listed = let g : Gathered = record { core = w.name.core; diaries = w.diaries } in
+            let lists : (c : ℕ) → IsListed sides c → IsListed two c = λ c h. others_list one other w w' c at' alone (still_listed sides id s s' c at here (λ i d e. at_longer s.gathered (g ∷ []) i d e) h) in
+            let P : ℕ → Side → Type 0 = λ _ u. u.gone ≡ true → IsListed two u.name.core in
+            each_set P one other w' (λ j u _ e. each_set P sides id s' (λ i c _ f h. lists c.name.core (r.listed i c f h)) (λ h. absurd (opposite s.gone h here)) j u e)
+            (λ _. (id, s', set_else one other id w' (λ q. apart (sym q)) ∙ set_here sides id s' (at_inside sides id s at), here, length s.gathered, g, at_last s.gathered g (length s.gathered) refl, refl));
       }
 
-  -- once a seat stands for all cores, the value of each bank is at home
+  -- once a seat stands for all cores, no other steps
+  only_live : (turn : ℕ → ℕ) (homes : Homes) (sides : List Side) (id : ℕ) (s : Side) → Slotted log active entries cores banks turn homes sides → get_elem? sides id ≡ some s → s.share ≡ cores → (j : ℕ) (u : Side) → get_elem? sides j ≡ some u → u.gone ≡ false → u ≡ s
+  only_live turn homes sides id s r at whole j u e here = dite (ℕ_discrete j id)
+      (λ q. some-injective u s (sym e ∙ ap (get_elem? sides) q ∙ at))
+      (λ q. let t = total_two (λ (x : Side). x.share + x.name.spare) sides j id u s q e at in let k = r.shares in let h = (r.parts j u e).0 here in absurd (omega arith))
+
+  -- then the value of each bank is at home
   pub all_home : (b : ℕ) (turn : ℕ → ℕ) (homes : Homes) (sides : List Side) (id : ℕ) (s : Side) → b < banks → (r : Slotted log active entries cores banks turn homes sides) → get_elem? sides id ≡ some s → s.turn ≡ 0 → s.share ≡ cores
       → AtHome log active b (turn b) homes sides (r.l b) (r.a b)
   all_home b turn homes sides id s inside r at idle whole = ⊎_elim
       (λ (p : AtHome log active b (turn b) homes sides (r.l b) (r.a b)). p)
-      (λ (p : IsOut log active b (turn b) homes sides (r.l b) (r.a b)). let out : p.1.turn ≡ b + 1 = p.3 in absurd (dite (ℕ_discrete p.0 id)
-      (λ q. let is : p.1.turn ≡ s.turn = ap (λ (u : Side). u.turn) (some-injective p.1 s (sym p.2 ∙ ap (get_elem? sides) q ∙ at)) in omega arith)
-      (λ q. let t = total_two (λ (u : Side). u.share + u.name.spare) sides p.0 id p.1 s q p.2 at in let k = r.shares in let n : p.1.share ≡ 0 = omega arith in
-      bool_cases p.1.gone (λ g. let z : p.1.turn ≡ 0 = (r.parts p.0 p.1 p.2).1 g in omega arith) (λ g. let h = (r.parts p.0 p.1 p.2).0 g in omega arith))))
+      (λ (p : IsOut log active b (turn b) homes sides (r.l b) (r.a b)). let out : p.1.turn ≡ b + 1 = p.3 in absurd (bool_cases p.1.gone
+      (λ g. let z : p.1.turn ≡ 0 = (r.parts p.0 p.1 p.2).1 g in omega arith)
+      (λ g. let z : p.1.turn ≡ s.turn = ap (λ (u : Side). u.turn) (only_live turn homes sides id s r at whole p.0 p.1 p.2 g) in omega arith)))
       (r.place b inside)
+
+  -- and a core that is neither its own nor listed has no seat
+  pub all_absent : (turn : ℕ → ℕ) (homes : Homes) (sides : List Side) (id : ℕ) (s : Side) → Slotted log active entries cores banks turn homes sides → get_elem? sides id ≡ some s → s.share ≡ cores
+      → (c : ℕ) → s.name.core ≢ c → Each (λ _ g. g.core ≢ c) s.gathered → Each (λ _ u. u.name.core ≢ c) sides
+  all_absent turn homes sides id s r at whole c own others j u e is = bool_cases u.gone
+      (λ g. let t = r.listed j u e g in let mine : t.1 ≡ s = only_live turn homes sides id s r at whole t.0 t.1 t.2 t.3 in
+      others t.4 t.5 (subst (λ (x : Side). get_elem? x.gathered t.4 ≡ some t.5) mine t.6) (t.7 ∙ is))
+      (λ g. own (ap (λ (x : Side). x.name.core) (sym (only_live turn homes sides id s r at whole j u e g)) ∙ is))

@@ -1,5 +1,5 @@
 -- Each step on a turn word, and each cut or gathering of seats, keeps the rule.
-use Rattle.std.proofs.Common.{append-nil, cond, ◌≡◌, ◌≢◌, ◌⊎◌, ℕ, zero, suc, ◌+◌, ◌-◌, ◌<◌, ◌≤◌, eqb, Bool, true, false, List, [], ◌∷◌, ◌++◌, map, length, get_or, set, sym, refl, ap, ◌∙◌, subst, arith, inl, inr, ⊎_elim, length-set, get_or-set_same, get_or-set_other, eq-eqb, ne_eqb, Option, Some, None}
+use Rattle.std.proofs.Common.{append-nil, cond, ◌≡◌, ◌≢◌, ◌⊎◌, ℕ, zero, suc, ◌+◌, ◌-◌, ◌<◌, ◌≤◌, eqb, Bool, true, false, true≢false, List, [], ◌∷◌, ◌++◌, map, length, get_or, set, sym, refl, ap, ◌∙◌, subst, arith, inl, inr, ⊎_elim, length-set, get_or-set_same, get_or-set_other, eq-eqb, ne_eqb, Option, Some, None}
 use mathlib.Core.Logic.{dite}
 use mathlib.Core.Option.{some, none, some-injective, some-ne-none}
 use mathlib.Core.Option as maybe
@@ -29,9 +29,9 @@ use Rattle.shared_table.specs.Slot.{Each, Differ, IsNamed, AtHome, IsOut, IsPlac
 use Rattle.shared_table.specs.Own.{IsWithin}
 use Rattle.shared_table.specs.Rule.{IsExclusive, side_of, Ruled, IsClear, Sat, took, gave, first_view}
 use Rattle.shared_table.proofs.Totals.{total_set, total_push, total_at, total_two}
-use Rattle.shared_table.proofs.Pairs.{each_set, each_push}
+use Rattle.shared_table.proofs.Pairs.{each_set, each_push, at_unmap}
 use Rattle.shared_table.proofs.Diaries.{member_of, filed_each}
-use Rattle.shared_table.proofs.Sides.{takes_slot, gives_slot, splits_slot, joins_slot, all_home}
+use Rattle.shared_table.proofs.Sides.{takes_slot, gives_slot, splits_slot, joins_slot, all_home, all_absent}
 use Rattle.shared_table.proofs.Steps.{St, here, unmoved}
 
 -- a seat with this number, or none
@@ -45,11 +45,6 @@ find_core c (x ∷ xs) = dite (ℕ_discrete x.name.core c) (λ q. inl (0, x, ref
     none_of : x.name.core ≢ c → Each (λ _ (u : Side). u.name.core ≢ c) xs → Each (λ _ (u : Side). u.name.core ≢ c) (x ∷ xs)
     none_of q t zero u e = λ h. q (ap (λ (y : Side). y.name.core) (some-injective x u e) ∙ h)
     none_of q t (suc j) u e = t j u e
-
-at_unmap : (views : List Knowledge) (j : ℕ) (u : Side) → get_elem? (map side_of views) j ≡ some u → (w : Knowledge) × (get_elem? views j ≡ some w) × (w.side ≡ u)
-at_unmap [] j u e = absurd (some-ne-none u (sym e))
-at_unmap (x ∷ xs) zero u e = (x, refl, some-injective x.side u e)
-at_unmap (x ∷ xs) (suc j) u e = at_unmap xs j u e
 
 both_readers : (e : ℕ) (m m' : Mode) (R W : ℕ) → reads e (Held e m) + reads e (Held e m') ≤ R → writes e (Held e m) + writes e (Held e m') ≤ W → W ≤ 1 → (W ≡ 1 → R ≡ 0) → (m' ≡ Reader) × (m ≡ Reader)
 both_readers e Reader Reader R W r w one alone = (refl, refl)
@@ -69,7 +64,7 @@ module _ {S : Type 0} (log : S → List Event) (active : S → List Active) (k :
   clear : (s : St S) (r : Ruled log active k s) (id : ℕ) (v : Knowledge) → get_elem? s.views id ≡ some v → Each (λ _ c. IsWithin k.entries c) v.claims → (b : ℕ) → b < k.banks → IsClear v.side.name.core v.claims (r.slotted.a b)
   clear s r id v at within b inside i a e lane ent m has same apart = ⊎_elim
       (λ (t : (j : ℕ) × (u : Side) × (get_elem? (map side_of s.views) j ≡ some u) × (u.name.core ≡ a.core.0)).
-      let w = at_unmap s.views t.0 t.1 t.2 in let f = (r.slotted.fits t.0 t.1 t.2 b inside).2 in
+      let w = at_unmap side_of s.views t.0 t.1 t.2 in let f = (r.slotted.fits t.0 t.1 t.2 b inside).2 in
       let held_by : active_of a.core.0 (r.slotted.a b) ≡ (diary_of b w.0.side.diaries).active = ap (λ c. active_of c (r.slotted.a b)) (sym t.3) ∙ f ∙ ap (λ (u : Side). (diary_of b u.diaries).active) (sym w.2) in
       let mem = member_of a.core.0 (r.slotted.a b) i a e refl in
       let claim = r.claimed t.0 w.0 w.1 b mem.0 a (subst (λ (l : List Active). get_elem? l mem.0 ≡ some a) held_by mem.1) in
@@ -191,8 +186,8 @@ module _ {S : Type 0} (log : S → List Event) (active : S → List Active) (k :
             each_push P (set s.views id w) u (each_set P s.views id w (λ j z _ t. r.claimed j z t) (r.claimed id v at)) (λ b i a e. absurd (some-ne-none a (sym e)));
       }
 
-  pub joins : (id other : ℕ) (v w : Knowledge) → v.side.gone ≡ false → w.side.gone ≡ false → w.side.turn ≡ 0 → Joins (Ruled log active k) id v other w (gathering v w) (once_gone w)
-  joins id other v w here' there' idle s r at apart at' = let v' : Knowledge = gathering v w in let w' : Knowledge = once_gone w in
+  pub joins : (id other : ℕ) (v w : Knowledge) → v.side.gone ≡ false → w.side.gone ≡ false → w.side.turn ≡ 0 → w.side.gathered ≡ [] → Joins (Ruled log active k) id v other w (gathering v w) (once_gone w)
+  joins id other v w here' there' idle alone s r at apart at' = let v' : Knowledge = gathering v w in let w' : Knowledge = once_gone w in
       let same : (g : Claim → ℕ) → total (of_seat g) (set (set s.views id v') other w') ≡ total (of_seat g) s.views =
       λ g. let x = total_set (of_seat g) s.views id v v' at in let y = total_set (of_seat g) (set s.views id v') other w w' at' in omega arith in
       let entry : (d : ℕ) → entry_of d (set (set s.views id v') other w') ≡ entry_of d s.views = λ d j. record { readers = same (reads d) j; writers = same (writes d) j; waiting = same (waits d) j } in
@@ -208,7 +203,7 @@ module _ {S : Type 0} (log : S → List Event) (active : S → List Active) (k :
         rooms = let x = total_set room s.views id v v' at in let y = total_set room (set s.views id v') other w w' at' in let z = r.rooms in omega arith;
         slotted = subst (Slotted log active k.entries k.cores k.banks (λ b. get_or s.words b 0) s.homes) (sym (map-set side_of (set s.views id v') other w' ∙ ap (λ (ns : List Side). set ns other w'.side) (map-set side_of s.views id v')))
             (joins_slot log active k.entries k.cores k.banks (λ b. get_or s.words b 0) s.homes (map side_of s.views) id other v.side w.side r.slotted (at_map side_of s.views id v at) here' apart
-            (subst (λ (ns : List Side). get_elem? ns other ≡ some w.side) (map-set side_of s.views id v') (at_map side_of (set s.views id v') other w at')) there' idle);
+            (subst (λ (ns : List Side). get_elem? ns other ≡ some w.side) (map-set side_of s.views id v') (at_map side_of (set s.views id v') other w at')) there' idle alone);
         claimed = each_set P (set s.views id v') other w' (λ j z _ t. first j z t) (first other w at');
       }
 
@@ -237,6 +232,7 @@ module _ {S : Type 0} (log : S → List Event) (active : S → List Active) (k :
       strays = λ c h b _. (refl, refl);
       shares = omega arith;
       parts = λ i s e. subst (λ (u : Side). (u.gone ≡ false → 0 < u.share) × (u.gone ≡ true → u.turn ≡ 0)) (lone i s e) ((λ _. omega arith), (λ _. refl));
+      listed = λ i s e gone. absurd (true≢false (sym gone ∙ ap (λ (u : Side). u.gone) (sym (lone i s e))));
       gathered = λ i s e j g f. absurd (some-ne-none g (sym (subst (λ (u : Side). get_elem? u.gathered j ≡ some g) (sym (lone i s e)) f)));
     };
     claimed = λ i v e b j a f. none_active i v e b j a f;
@@ -261,6 +257,7 @@ module _ {S : Type 0} (log : S → List Event) (active : S → List Active) (k :
   -- the table that a seat closes which stands for all cores
   pub closes : (id b : ℕ) (v : Knowledge) (ws : List ℕ) (xs : List (Option S)) → b < k.banks → Final (Seen (Ruled log active k) id v) ws xs → v.side.turn ≡ 0 → v.side.share ≡ k.cores
       → (x : S) × (get_elem? xs b ≡ some (Some x)) × Fits (log x) (active x) v.side.name.core (diary_of b v.side.diaries) × Each (λ _ g. Fits (log x) (active x) g.core (diary_of b g.diaries)) v.side.gathered
+      × ((c : ℕ) → v.side.name.core ≢ c → Each (λ _ g. g.core ≢ c) v.side.gathered → (events_of c (log x) ≡ []) × (active_of c (active x) ≡ []))
   closes id b v ws xs inside f idle whole = let s : St S = f.0 in let r = f.1.0 in let at = at_map side_of s.views id v f.1.1 in
       let p = all_home log active k.entries k.cores k.banks b (λ c. get_or s.words c 0) s.homes (map side_of s.views) id v.side inside r.slotted at idle whole in let x : S = p.0 in
       let fit : (c : ℕ) (d : Diary) → Fits (r.slotted.l b) (r.slotted.a b) c d → Fits (log x) (active x) c d = λ c d. subst (λ (z : List Event × List Active). Fits z.0 z.1 c d) (λ j. (sym p.3 j, sym p.4 j)) in (
@@ -268,6 +265,8 @@ module _ {S : Type 0} (log : S → List Event) (active : S → List Active) (k :
         f.4 b (Some x) p.2,
         fit v.side.name.core (diary_of b v.side.diaries) (r.slotted.fits id v.side at b inside),
         (λ i g e. let t = r.slotted.gathered id v.side at i g e in fit g.core (diary_of b g.diaries) (subst (λ (z : ℕ × List Diary). Fits (r.slotted.l b) (r.slotted.a b) z.0 (diary_of b z.1)) (λ j. (t.4 j, t.5 j)) (r.slotted.fits t.0 t.1 t.2 b inside))),
+        (λ c own others. let t = r.slotted.strays c (all_absent log active k.entries k.cores k.banks (λ d. get_or s.words d 0) s.homes (map side_of s.views) id v.side r.slotted at whole c own others) b inside in
+            (ap (events_of c) p.3 ∙ t.0, ap (active_of c) p.4 ∙ t.1)),
       )
 
   pub takes_turn_as : (slots id b c entries : ℕ) (me : Sat S) → b < k.banks → entries ≡ k.entries → c ≡ me.0.side.name.core + 1 → me.0.side.gone ≡ false → me.0.side.turn ≡ 0 → Each (λ _ d. IsWithin k.entries d) me.0.claims

@@ -39,6 +39,10 @@ pub record Numbered (cores : ℕ) (sides : List Side) : Type 0 where
 abbrev pub IsGone : List Side → Gathered → Type 0
 IsGone sides g = (at : ℕ) × (s : Side) × (get_elem? sides at ≡ some s) × (s.gone ≡ true) × (s.name.core ≡ g.core) × (s.diaries ≡ g.diaries)
 
+-- one of these seats, which may still step, has gathered the core c
+abbrev pub IsListed : List Side → ℕ → Type 0
+IsListed sides c = (at : ℕ) × (s : Side) × (get_elem? sides at ≡ some s) × (s.gone ≡ false) × (i : ℕ) × (g : Gathered) × (get_elem? s.gathered i ≡ some g) × (g.core ≡ c)
+
 -- what the core c may give back: a log that goes on by events of its own, the active PEIs of the other cores as they were, and in all those of the log
 pub record Returns (entries c : ℕ) (seen : List Event) (lent : List Active) (l : List Event) (a : List Active) : Type 0 where
   pub more : List Event
@@ -70,8 +74,8 @@ module _ {S : Type 0} (log : S → List Event) (active : S → List Active) wher
 
   -- The log `l b` and the active PEIs `a b` of each bank b, whoever has its value. Seats have numbers of their own. For each
   -- bank, the value is at home or out, the active PEIs are those of the log, each seat has its own events and active PEIs
-  -- of them and has seen a prefix of the log, and a core without a seat has none. Seats that were gathered are listed and
-  -- step no more.
+  -- of them and has seen a prefix of the log, and a core without a seat has none. The seats that step no more are just those
+  -- that another has gathered.
   pub record Slotted (entries cores banks : ℕ) (turn : ℕ → ℕ) (homes : List (maybe.Option (Option S))) (sides : List Side) : Type 0 where
     pub numbered : Numbered cores sides
     pub l : ℕ → List Event
@@ -83,3 +87,4 @@ module _ {S : Type 0} (log : S → List Event) (active : S → List Active) wher
     pub shares : total (λ s. s.share + s.name.spare) sides ≡ cores
     pub parts : Each (λ _ s. (s.gone ≡ false → 0 < s.share) × (s.gone ≡ true → s.turn ≡ 0)) sides
     pub gathered : Each (λ _ s. Each (λ _ g. IsGone sides g) s.gathered) sides
+    pub listed : Each (λ _ s. s.gone ≡ true → IsListed sides s.name.core) sides

@@ -53,7 +53,7 @@ pub struct Side {
     pub diaries: LinkedList<Diary>,
     /// 0 for a seat that has no slot, and otherwise one more than the number of the bank whose slot it has.
     pub turn: u8,
-    /// The active PEIs of the value when the seat last took the slot.
+    /// The active PEIs of the value that the seat took last, as they were then.
     pub lent: LinkedList<Active>,
     /// Whether the seat was gathered. Then it makes no more steps.
     pub gone: bool,

@@ -3,9 +3,9 @@ ghost use Rattle.std.specs.Prelude.{◌≡◌, ◌≢◌, ℕ, ◌+◌, ◌<◌,
 ghost use mathlib.Core.Option.{some};
 ghost use lib.ListN.{get_elem?};
 ghost use Rattle.shared_table.specs.Claims.{gathering, once_gone};
-ghost use Rattle.shared_table.specs.Closing.{AllIdle, gather_all};
+ghost use Rattle.shared_table.specs.Closing.{AllIdle, IsAbsent, gather_all};
 ghost use Rattle.std.specs.Slots.{slots_filled, slots_len};
-ghost use Rattle.shared_table.specs.Diaries.{Fits, diary_of};
+ghost use Rattle.shared_table.specs.Diaries.{Fits, events_of, active_of, diary_of};
 ghost use Rattle.shared_table.specs.Parts.{turn, FitsSeat};
 ghost use Rattle.shared_table.specs.Place.{SeatView, AllOf};
 ghost use Rattle.shared_table.specs.declared.claims.Gathered.{Gathered};
@@ -39,7 +39,7 @@ impl<S: Shared> SharedTable<S> {
     fn gather<B: Aim>(&self, first: &mut Place<S>, other: Place<S>)
         requires table { (first.old.table_id ≡ self.now.table) × (other.table_id ≡ self.now.table) }
         requires steps { (first.old.me.0.side.gone ≡ false) × (other.me.0.side.gone ≡ false) }
-        requires idle { (other.me.0.side.turn ≡ 0) × (other.me.1 ≡ []) }
+        requires idle { (other.me.0.side.turn ≡ 0) × (other.me.0.side.gathered ≡ []) × (other.me.1 ≡ []) }
         requires aim { B.aim ≡ once_gone other.me.0 }
         ensures same { first.new.table_id ≡ first.old.table_id }
         ensures view { first.new.me ≡ (gathering first.old.me.0 other.me.0, first.old.me.1) }
@@ -82,12 +82,14 @@ impl<S: Shared> SharedTable<S> {
     /// Ends the table: the value of its slot, and the events of each core.
     ///
     /// All seats are back and none has the slot. The log of the value has for each core just the events that its seat
-    /// has, and begins with each log that a seat has seen. Claims and active PEIs may be left.
+    /// has, none of a core without a seat, and begins with each log that a seat has seen. Claims and active PEIs may be
+    /// left.
     pub fn close(self, seats: Seats<S>) -> (S, Receipt)
         requires table { seats.table ≡ self.table }
         requires all { length seats.list ≡ self.cores }
         requires idle { AllIdle seats.list }
         ensures seen { (i : ℕ) (s : SeatView) → get_elem? seats.list i ≡ some s → FitsSeat (S.log result.0) (S.active result.0) s }
+        ensures others { (c : ℕ) → IsAbsent c seats.list → (events_of c (S.log result.0) ≡ []) × (active_of c (S.active result.0) ≡ []) }
         ensures receipt { result.1 ≡ map seat_account seats.list }
     {
         let _ = &self.table;
@@ -116,6 +118,7 @@ impl<S: Shared> SharedTable<S> {
         requires idle { last.me.0.side.turn ≡ 0 }
         ensures own { Fits (S.log result) (S.active result) last.me.0.side.name.core (diary_of 0 last.me.0.side.diaries) }
         ensures gathered { (i : ℕ) (g : Gathered) → get_elem? last.me.0.side.gathered i ≡ some g → Fits (S.log result) (S.active result) g.core (diary_of 0 g.diaries) }
+        ensures others { (c : ℕ) → last.me.0.side.name.core ≢ c → ((i : ℕ) (g : Gathered) → get_elem? last.me.0.side.gathered i ≡ some g → g.core ≢ c) → (events_of c (S.log result) ≡ []) × (active_of c (S.active result) ≡ []) }
     {
         let SharedTable { table } = self;
         let mut closed = table.close_with(last);

@@ -3,8 +3,8 @@
 //!
 //! A step is one atomic operation on one word, with sequential consistency. `announce`, `try_grant`, `release` and
 //! `withdraw` wait for nobody; `hold` alone waits. The rule that each step keeps is in `specs/Rule.antt`: each directory
-//! word counts the claims of all seats, a writer holds an entry alone, at most one seat has the slot, the log has of
-//! each core the events that its seat has, and each active PEI has the claim of its lane.
+//! word counts the claims of all seats, a writer holds an entry alone, at most one seat has a bank's slot, a bank's log has
+//! of each core the events that its seat has there, and each active PEI has the claim of its lane. A table has one bank.
 #![tactic(auto)]
 
 mod claims;
