@@ -19,9 +19,7 @@ use Rattle.shared_table.specs.Slot.{Each, Differ, IsNamed, Numbered, IsGone, IsL
 use Rattle.shared_table.proofs.Totals.{total_set, total_push, total_two, at_inside}
 use Rattle.shared_table.proofs.Pairs.{each_set, each_push, pairs_set, pairs_push}
 use Rattle.shared_table.proofs.Diaries.{events_of-append, starts_trans, filed_here, filed_else, filed_each, instead, instead_each}
-
-opposite : (b : Bool) → b ≡ true → b ≡ false → ⊥
-opposite b t f = true≢false (sym t ∙ f)
+use Rattle.pei_types.proofs.Tests.{not_both}
 
 bool_cases : {C : Type 0} (b : Bool) → (b ≡ true → C) → (b ≡ false → C) → C
 bool_cases true t f = t refl
@@ -29,7 +27,7 @@ bool_cases false t f = f refl
 
 -- a gathered seat is none that steps
 pub still_gone : (sides : List Side) (id : ℕ) (s s' : Side) (g : Gathered) → get_elem? sides id ≡ some s → s.gone ≡ false → IsGone sides g → IsGone (set sides id s') g
-still_gone sides id s s' g at here t = let other : t.0 ≢ id = λ e. opposite t.1.gone t.3 (ap (λ (x : Side). x.gone) (some-injective t.1 s (sym t.2 ∙ ap (get_elem? sides) e ∙ at)) ∙ here) in
+still_gone sides id s s' g at here t = let other : t.0 ≢ id = λ e. not_both t.1.gone t.3 (ap (λ (x : Side). x.gone) (some-injective t.1 s (sym t.2 ∙ ap (get_elem? sides) e ∙ at)) ∙ here) in
     (t.0, t.1, set_else sides id t.0 s' other ∙ t.2, t.3, t.4, t.5)
 
 -- a core that is listed stays listed
@@ -81,11 +79,11 @@ module _ {S : Type 0} (log : S → List Event) (active : S → List Active) (ent
     strays = strays;
     shares = let x = total_set (λ (u : Side). u.share + u.name.spare) sides id s s' at in let p : s'.name.spare ≡ s.name.spare = ap (λ (m : Name). m.spare) name in let y = r.shares in omega arith;
     parts = each_set (λ _ u. (u.gone ≡ false → 0 < u.share) × (u.gone ≡ true → u.turn ≡ 0)) sides id s' (λ j b _ e. r.parts j b e)
-        ((λ _. subst (λ (n : ℕ). 0 < n) (sym share) ((r.parts id s at).0 here)), λ h. absurd (opposite s'.gone h here'));
+        ((λ _. subst (λ (n : ℕ). 0 < n) (sym share) ((r.parts id s at).0 here)), λ h. absurd (not_both s'.gone h here'));
     gathered = each_set (λ _ u. Each (λ _ g. IsGone (set sides id s') g) u.gathered) sides id s' (λ j b _ e i g f. still_gone sides id s s' g at here (r.gathered j b e i g f))
         (λ i g f. still_gone sides id s s' g at here (r.gathered id s at i g (subst (λ (z : List Gathered). get_elem? z i ≡ some g) gathered f)));
     listed = each_set (λ _ u. u.gone ≡ true → IsListed (set sides id s') u.name.core) sides id s'
-        (λ j b _ e h. still_listed sides id s s' b.name.core at here' (λ i g f. subst (λ (z : List Gathered). get_elem? z i ≡ some g) (sym gathered) f) (r.listed j b e h)) (λ h. absurd (opposite s'.gone h here'));
+        (λ j b _ e h. still_listed sides id s s' b.name.core at here' (λ i g f. subst (λ (z : List Gathered). get_elem? z i ≡ some g) (sym gathered) f) (r.listed j b e h)) (λ h. absurd (not_both s'.gone h here'));
   }
 
   -- other words, among them the same turn words
@@ -252,7 +250,7 @@ module _ {S : Type 0} (log : S → List Event) (active : S → List Active) (ent
         listed = let stays : (c : ℕ) → IsListed sides c → IsListed (set sides id y ++ z ∷ []) c =
             λ c h. let t = still_listed sides id s y c at here (λ i g f. f) h in (t.0, t.1, at_longer (set sides id y) (z ∷ []) t.0 t.1 t.2, t.3, t.4, t.5, t.6, t.7) in
             let P : ℕ → Side → Type 0 = λ _ u. u.gone ≡ true → IsListed (set sides id y ++ z ∷ []) u.name.core in
-            each_push P (set sides id y) z (each_set P sides id y (λ j u _ e h. stays u.name.core (r.listed j u e h)) (λ h. absurd (opposite s.gone h here))) (λ h. absurd (true≢false (sym h)));
+            each_push P (set sides id y) z (each_set P sides id y (λ j u _ e h. stays u.name.core (r.listed j u e h)) (λ h. absurd (not_both s.gone h here))) (λ h. absurd (true≢false (sym h)));
       }
 
   -- a seat gathers another
@@ -281,7 +279,7 @@ module _ {S : Type 0} (log : S → List Event) (active : S → List Active) (ent
         listed = let g : Gathered = record { core = w.name.core; diaries = w.diaries } in
             let lists : (c : ℕ) → IsListed sides c → IsListed two c = λ c h. others_list one other w w' c at' alone (still_listed sides id s s' c at here (λ i d e. at_longer s.gathered (g ∷ []) i d e) h) in
             let P : ℕ → Side → Type 0 = λ _ u. u.gone ≡ true → IsListed two u.name.core in
-            each_set P one other w' (λ j u _ e. each_set P sides id s' (λ i c _ f h. lists c.name.core (r.listed i c f h)) (λ h. absurd (opposite s.gone h here)) j u e)
+            each_set P one other w' (λ j u _ e. each_set P sides id s' (λ i c _ f h. lists c.name.core (r.listed i c f h)) (λ h. absurd (not_both s.gone h here)) j u e)
             (λ _. (id, s', set_else one other id w' (λ q. apart (sym q)) ∙ set_here sides id s' (at_inside sides id s at), here, length s.gathered, g, at_last s.gathered g (length s.gathered) refl, refl));
       }
 
