@@ -61,7 +61,7 @@ fn read_opened<F: Files>(
     let mut bytes = Vec::new(alloc);
     let mut chunk = [0u8; 4096];
     let mut room = limit as usize + 1;
-    while room > 0 {
+    loop {
         let piece = &mut chunk[..room.min(4096)];
         let Ok(count) = files.read(which, piece) else {
             return Err(ReadEnd::Failed);
@@ -69,10 +69,12 @@ fn read_opened<F: Files>(
         if count == 0 {
             return Ok(Bytes::new(bytes));
         }
+        if count == room {
+            return Err(ReadEnd::TooLong);
+        }
         if bytes.extend_from_slice(&piece[..count]).is_err() {
             return Err(ReadEnd::OutOfMemory);
         }
         room -= count;
     }
-    Err(ReadEnd::TooLong)
 }
