@@ -1,9 +1,12 @@
 -- What lists of words ask for.
-use Rattle.std.proofs.Common.{◌≡◌, ℕ, Bool, true, false, List, [], ◌∷◌, Option, Some, None, option_map, if◌then◌else◌, codes, refl, sym}
+use Rattle.std.proofs.Common.{◌≡◌, ℕ, ◌<◌, ◌≤◌, Bool, true, false, List, [], ◌∷◌, length, get_or, Option, Some, None, option_map, option_and_then, if◌then◌else◌, codes, refl, sym, subst, arith}
 use Rattle.std.specs.Str.{bytes_eq}
 use Rattle.std.proofs.lemmas.Slice.Eq.{bytes_eq-Decides}
-use Rattle.pei_cli.specs.Commands.{Run, Output, machine_word, sched_words, asm_words, run_words, check_words, gen_words, output_words}
-use Rattle.pei_cli.specs.Jobs.{asked_by, asked_of}
+use Rattle.sched_run.specs.declared.policies.Policy.{Policy}
+use Rattle.pei_cli.specs.Asking.{machine_as, runs_as}
+use Rattle.pei_cli.specs.Commands.{MachineWord, Run, ScheduleWord, Sched, Output, Report, machine_word, schedule_word, turns_word, sched_words, asm_words, run_words, check_words, gen_words, output_words}
+use Rattle.pei_cli.specs.Jobs.{asked_by, asked_of, policy_of_word}
+use Rattle.pei_cli.specs.declared.words.Machine.{Machine}
 
 -- ---- the other verbs ask for nothing that is built
 
@@ -45,3 +48,24 @@ other_verb verb rest not_asm not_sched not_gen =
     by false false false true g d e f = no_check rest
     by false false false false true d e f = absurd (cc f)
     by false false false false false d e f = refl
+
+-- ---- a scheduled run
+
+-- the run that four words behind `sched` ask for
+pub asked_run : (words : List (List ℕ)) (machine seed count : List ℕ) (k : Machine) (policy : Policy) (turns : ℕ) → 4 ≤ length words → length words < 5 → machine ≡ get_or words 1 machine → seed ≡ get_or words 2 seed → count ≡ get_or words 3 count → option_map policy_of_word (schedule_word seed) ≡ Some policy → turns_word count ≡ Some turns → machine_word machine ≡ machine_as machine k → asked_by (sched_words words) ≡ Some (runs_as (get_or words 0 []) (get_or words 1 []) (record { machine = k; policy = policy; turns = turns }))
+asked_run [] machine seed count k policy turns some few at_1 at_2 at_3 seeds counts named = absurd (omega (arith, some))
+asked_run (a ∷ []) machine seed count k policy turns some few at_1 at_2 at_3 seeds counts named = absurd (omega (arith, some))
+asked_run (a ∷ b ∷ []) machine seed count k policy turns some few at_1 at_2 at_3 seeds counts named = absurd (omega (arith, some))
+asked_run (a ∷ b ∷ c ∷ []) machine seed count k policy turns some few at_1 at_2 at_3 seeds counts named = absurd (omega (arith, some))
+asked_run (a ∷ b ∷ c ∷ d ∷ e ∷ more) machine seed count k policy turns some few at_1 at_2 at_3 seeds counts named = absurd (omega (arith, few))
+asked_run (a ∷ b ∷ c ∷ d ∷ []) machine seed count k policy turns some few at_1 at_2 at_3 seeds counts named =
+    by (schedule_word c) (turns_word d) (machine_word b)
+    (subst (λ (w : List ℕ). option_map policy_of_word (schedule_word w) ≡ Some policy) at_2 seeds)
+    (subst (λ (w : List ℕ). turns_word w ≡ Some turns) at_3 counts)
+    (subst (λ (w : List ℕ). machine_word w ≡ machine_as w k) at_1 named)
+  where
+    by : (s : Option ScheduleWord) (n : Option ℕ) (m : MachineWord) → option_map policy_of_word s ≡ Some policy → n ≡ Some turns → m ≡ machine_as b k
+        → asked_by (option_and_then (λ x. option_and_then (λ y. option_map (Sched a m x y) (Some Report)) n) s) ≡ Some (runs_as a b (record { machine = k; policy = policy; turns = turns }))
+    by None n m seeds counts named = absurd (cc seeds)
+    by (Some s) None m seeds counts named = absurd (cc counts)
+    by (Some s) (Some n) m seeds counts named = cc

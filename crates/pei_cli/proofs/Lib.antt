@@ -3,4 +3,6 @@ pub mod AskedWords
 pub mod Loaded
 pub mod Statuses
 pub mod WritingOn
+pub mod FileUses
 pub mod Served
+pub mod RunsServed

@@ -1,5 +1,5 @@
 -- A run and its report, as the answer of a command.
-use Rattle.std.proofs.Common.{◌≡◌, ℕ, ◌*◌, ◌<◌, List, Option, Ok, Err, All, None, refl, sym, ◌∙◌, ap, subst}
+use Rattle.std.proofs.Common.{◌≡◌, ℕ, ◌*◌, ◌<◌, List, Ok, Err, All, None, sym, ◌∙◌, ap, subst}
 use Rattle.pei_types.specs.declared.events.Event.{Event}
 use Rattle.pei_types.specs.declared.machines.MachineSpec.{MachineSpec}
 use Rattle.pei_types.specs.Ends.{status_of}
@@ -20,15 +20,15 @@ use Rattle.sched_run.specs.SixLaws.{SixLaws}
 use Rattle.sched_run.specs.declared.schedule.SchedEnd.{SchedEnd}
 use Rattle.pei_cli.specs.FaultLines.{fault_of_loading}
 use Rattle.pei_cli.specs.Jobs.{Job}
-use Rattle.pei_cli.specs.Machines.{IsBuiltIn}
-use Rattle.pei_cli.specs.Serving.{Begins, RunsJob, run_of_job}
+use Rattle.pei_cli.specs.Serving.{Begins, RunsJob}
+use Rattle.pei_cli.specs.Uses.{SinkUse}
 use Rattle.pei_cli.specs.declared.ends.PlainEnd.TheVariants as ends
 use Rattle.pei_cli.specs.declared.faults.Fault.TheVariants as fault
 use Rattle.pei_cli.proofs.Loaded.{loaded_asks}
 
 -- what is known when the report is written
 pub record Ran (job : Job) (p : Listing) (m : MachineSpec) (image : Contents) (v : SchedEnd) (status : ℕ) : Type 0 where
-  pub begins : Begins job p m image
+  pub begins : Begins p m image
   pub end : IsEndOf m image (run_of p m image job.policy job.turns) v
   pub laws : SixLaws p m image v.fabric.journal
   pub told : status ≡ status_of m v.fabric.journal
@@ -44,12 +44,10 @@ flat_at_end m image r v end =
     end.memory addr aligned (subst (λ (x : MachineSpec). addr < 64 * x.blocks) end.machine inside)
     ∙ ap (λ (js : List Event). flat_word image js addr) (sym end.journal)
 
-pub served : (job : Job) (p : Listing) (m : MachineSpec) (image : Contents) (v : SchedEnd) (status : ℕ) (journal : Recorded) (before now : Option (List ℕ)) (faults faults_now : ℕ) → Ran job p m image v status → journal.events ≡ v.fabric.journal → Writes (report_text p m image v.fabric.journal) before now faults faults_now (Ok tt) → RunsJob job p before now faults faults_now (Ok (ends.Sched status journal v.cores v.turns))
-served job p m image v status journal before now faults faults_now ran events written =
-    let r = run_of_job job p m image
-    in let whole = subst (λ (js : List Event). Writes (report_text p m image js) before now faults faults_now (Ok tt)) ran.end.journal written
+pub served : (job : Job) (p : Listing) (m : MachineSpec) (image : Contents) (v : SchedEnd) (status : ℕ) (journal : Recorded) (sink : SinkUse) → Ran job p m image v status → journal.events ≡ v.fabric.journal → Writes (report_text p m image v.fabric.journal) sink.before sink.now sink.faults sink.faults_now (Ok tt) → RunsJob job p m sink (Ok (ends.Sched status journal v.cores v.turns))
+served job p m image v status journal sink ran events written =
+    let whole = subst (λ (js : List Event). Writes (report_text p m image js) sink.before sink.now sink.faults sink.faults_now (Ok tt)) ran.end.journal written
     in (
-      m,
       image,
       ran.begins,
       (ran.told ∙ ap (status_of m) ran.end.journal, events ∙ ran.end.journal, ran.end.cores, ran.end.turns),
@@ -57,12 +55,12 @@ served job p m image v status journal before now faults faults_now ran events wr
       whole.0,
     )
 
-pub served_front : (job : Job) (p : Listing) (m : MachineSpec) (image : Contents) (v : SchedEnd) (status : ℕ) (before now : Option (List ℕ)) (faults faults_now : ℕ) (failed : Failed) → Ran job p m image v status → Writes (report_text p m image v.fabric.journal) before now faults faults_now (Err failed) → RunsJob job p before now faults faults_now (Err fault.WriteFault)
-served_front job p m image v status before now faults faults_now failed ran written =
-    let front = subst (λ (js : List Event). Writes (report_text p m image js) before now faults faults_now (Err failed)) ran.end.journal written
-    in (m, image, ran.begins, front.0, front.1)
+pub served_front : (job : Job) (p : Listing) (m : MachineSpec) (image : Contents) (v : SchedEnd) (status : ℕ) (sink : SinkUse) (failed : Failed) → Ran job p m image v status → Writes (report_text p m image v.fabric.journal) sink.before sink.now sink.faults sink.faults_now (Err failed) → RunsJob job p m sink (Err fault.WriteFault)
+served_front job p m image v status sink failed ran written =
+    let front = subst (λ (js : List Event). Writes (report_text p m image js) sink.before sink.now sink.faults sink.faults_now (Err failed)) ran.end.journal written
+    in (image, ran.begins, front.0, front.1)
 
 -- its program was not loaded
-pub refused : (job : Job) (p : Listing) (m : MachineSpec) (f : LoadFault) (before : Option (List ℕ)) (faults : ℕ) → IsBuiltIn job.cores m → IsLoadRefusal p m f → RunsJob job p before before faults faults (Err (fault_of_loading f))
-refused job p m load.OutOfMemory before faults built told = refl
-refused job p m f before faults built told = (m, built, told, refl)
+pub refused : (job : Job) (p : Listing) (m : MachineSpec) (f : LoadFault) (sink : SinkUse) → IsLoadRefusal p m f → sink.now ≡ sink.before → RunsJob job p m sink (Err (fault_of_loading f))
+refused job p m load.OutOfMemory sink told same = same
+refused job p m f sink told same = (told, same)

@@ -46,6 +46,6 @@ placed_line a b k =
     ∙ append_assoc (a ++ codes ":") b (codes " " ++ (k ++ codes "\n"))
     ∙ append_assoc a (codes ":") (b ++ (codes " " ++ (k ++ codes "\n")))))
 
--- the line of a fault of loading
-pub load_line_joined : (kind number : List ℕ) → codes "load bad " ++ (kind ++ (codes " " ++ (number ++ codes "\n"))) ≡ line (codes "load" ∷ codes "bad" ∷ kind ∷ number ∷ [])
-load_line_joined kind number = ap (λ t. codes "load bad " ++ t) (sym (append_assoc kind (codes " " ++ number) (codes "\n")))
+-- the line of a fault of a machine's file that names a key
+pub line_with_key : (kind key : List ℕ) → codes "machine bad " ++ (kind ++ (codes " " ++ (key ++ codes "\n"))) ≡ line (codes "machine" ∷ codes "bad" ∷ kind ∷ key ∷ [])
+line_with_key kind key = ap (λ t. codes "machine bad " ++ t) (sym (append_assoc kind (codes " " ++ key) (codes "\n")))

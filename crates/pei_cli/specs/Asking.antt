@@ -1,21 +1,39 @@
 -- What the code makes of the words.
-use Rattle.std.specs.Prelude.{◌≡◌, ℕ, ◌<◌, ◌≤◌, List, [], length, get_or, Option, Some, None}
+use Rattle.std.specs.Prelude.{◌≡◌, ⊤, ℕ, ◌<◌, List, [], length, get_or, Option, Some, None}
+use Rattle.pei_types.specs.Limits.{IsWithin}
 use Rattle.pei_types.specs.declared.machines.MachineSpec.{MachineSpec}
 use Rattle.sched_run.specs.Choosing.{HasActorsOf}
-use Rattle.pei_cli.specs.Jobs.{Asked, Runs, Prints, Generates, asked_of}
+use Rattle.pei_cli.specs.Commands.{MachineWord, BuiltIn, FromFile}
+use Rattle.pei_cli.specs.Jobs.{Job, Asked, Runs, Prints, Generates, asked_of}
 use Rattle.pei_cli.specs.declared.words.Asked.{Asked as Parsed}
 use Rattle.pei_cli.specs.declared.words.Asked.TheVariants as parsed
+use Rattle.pei_cli.specs.declared.words.Machine.{Machine}
+use Rattle.pei_cli.specs.declared.words.Machine.TheVariants as machine
 use Rattle.pei_cli.specs.declared.words.Run.{Run}
 
--- a run with the name of its program
-abbrev pub runs_as : List ℕ → Run → Asked
-runs_as name j = Runs (record { program = name; cores = j.cores; policy = j.policy; turns = j.turns })
+-- the machine of a word: a built-in one, or the file whose name the word is
+abbrev pub machine_as : List ℕ → Machine → MachineWord
+machine_as name (machine.BuiltIn cores) = BuiltIn cores
+machine_as name machine.File = FromFile name
 
--- It is what the words ask for; the program to run or to print is the second word, and its policy names only actors of the machine.
+-- a built-in machine has one core to eight
+abbrev pub HasBuiltInCores : Machine → Type 0
+HasBuiltInCores (machine.BuiltIn cores) = IsWithin 1 8 cores
+HasBuiltInCores machine.File = ⊤
+
+-- a run with the names of its program and, where it is a file, of its machine
+abbrev pub job_of : List ℕ → List ℕ → Run → Job
+job_of program name j = record { program = program; machine = machine_as name j.machine; policy = j.policy; turns = j.turns }
+
+abbrev pub runs_as : List ℕ → List ℕ → Run → Asked
+runs_as program name j = Runs (job_of program name j)
+
+-- It is what the words ask for; the program to run or to print is the second word, and the machine of a run the third; a
+-- run's policy names only actors of its machine.
 abbrev pub Asks : List (List ℕ) → Option Parsed → Type 0
 Asks words None = asked_of words ≡ None
 Asks words (Some (parsed.Run j)) =
-    (asked_of words ≡ Some (runs_as (get_or words 1 []) j)) × (1 < length words) × (1 ≤ j.cores) × (j.cores ≤ 8)
+    (asked_of words ≡ Some (runs_as (get_or words 1 []) (get_or words 2 []) j)) × (2 < length words) × HasBuiltInCores j.machine
     × ((m : MachineSpec) → HasActorsOf m j.policy)
 Asks words (Some parsed.Print) = (asked_of words ≡ Some (Prints (get_or words 1 []))) × (1 < length words)
 Asks words (Some (parsed.Generate n)) = asked_of words ≡ Some (Generates n)

@@ -2,13 +2,15 @@
 use Rattle.std.specs.Prelude.{ℕ, List, Option, Some, None, option_and_then, if◌then◌else◌}
 use Rattle.sched_run.specs.declared.policies.Policy.{Policy}
 use Rattle.sched_run.specs.declared.policies.Policy.TheVariants as policy
-use Rattle.pei_cli.specs.Commands.{Command, Asm, Sched, Gen, BuiltIn, ScheduleWord, InTurn, Serial, Seeded, Report, is_run, plain_command_of}
+use Rattle.pei_io.specs.declared.files.Which.{Which}
+use Rattle.pei_io.specs.declared.files.Which.TheVariants as which
+use Rattle.pei_cli.specs.Commands.{Command, Asm, Sched, Gen, MachineWord, ScheduleWord, InTurn, Serial, Seeded, Report, file_of_machine, is_run, plain_command_of}
 
--- A scheduled run with its report: the name of the program's file, the cores of the built-in machine, who takes the
--- turns, and how many at most.
+-- A scheduled run with its report: the name of the program's file, the machine, who takes the turns, and how many at
+-- most.
 pub record Job : Type 0 where
   pub program : List ℕ
-  pub cores : ℕ
+  pub machine : MachineWord
   pub policy : Policy
   pub turns : ℕ
 
@@ -23,12 +25,11 @@ pub data Asked : Type 0 where
   Prints : (file : List ℕ) → Asked
   Generates : (n : ℕ) → Asked
 
--- of the commands, the canonical text of a program, a scheduled run on a built-in machine, with its report, and the
--- generated program are built
+-- of the commands, the canonical text of a program, a scheduled run with its report, and the generated program are built
 abbrev pub built : Command → Option Asked
 built (Asm program) = Some (Prints program)
-built (Sched program (BuiltIn cores) schedule turns Report) =
-    Some (Runs (record { program = program; cores = cores; policy = policy_of_word schedule; turns = turns }))
+built (Sched program machine schedule turns Report) =
+    Some (Runs (record { program = program; machine = machine; policy = policy_of_word schedule; turns = turns }))
 built (Gen n) = Some (Generates n)
 built _ = None
 
@@ -38,3 +39,10 @@ asked_by c = option_and_then built (option_and_then (λ x. if is_run x then None
 
 abbrev pub asked_of : List (List ℕ) → Option Asked
 asked_of words = option_and_then built (plain_command_of words)
+
+-- the name of the file that it has in each place: its program, and its machine where that is a file
+abbrev pub file_of : Asked → Which → Option (List ℕ)
+file_of (Runs job) which.Program = Some job.program
+file_of (Runs job) which.Machine = file_of_machine job.machine
+file_of (Prints file) which.Program = Some file
+file_of _ _ = None

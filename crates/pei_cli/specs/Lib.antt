@@ -1,6 +1,6 @@
 pub mod Commands
 pub mod Jobs
 pub mod Asking
-pub mod Machines
 pub mod FaultLines
+pub mod Uses
 pub mod Serving

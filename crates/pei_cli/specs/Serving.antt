@@ -1,5 +1,5 @@
 -- What a command comes to.
-use Rattle.std.specs.Prelude.{◌≡◌, ◌≢◌, ⊤, ◌⊎◌, ℕ, ◌<◌, ◌≤◌, List, length, take, Option, Some, None, IfSome, Result, Ok, Err}
+use Rattle.std.specs.Prelude.{◌≡◌, ◌≢◌, ⊤, ◌⊎◌, ℕ, ◌<◌, ◌≤◌, List, length, take, Some, None, IfSome, IsSomeAnd, Result, Ok, Err}
 use Rattle.pei_types.specs.declared.machines.MachineSpec.{MachineSpec}
 use Rattle.pei_types.specs.Ends.{ends_of, status_of}
 use Rattle.pei_types.specs.Image.{IsImageOf, load_refusal}
@@ -7,6 +7,7 @@ use Rattle.pei_types.specs.Program.{Listing, Contents}
 use Rattle.pei_types.specs.Schedule.{Run}
 use Rattle.pei_types.specs.Texts.{report_text}
 use Rattle.pei_io.specs.Outside.{Rose, Added}
+use Rattle.pei_io.specs.declared.files.Which.{Which}
 use Rattle.pei_io.specs.declared.files.Which.TheVariants as which
 use Rattle.pei_asm.specs.declared.faults.AsmKind.TheVariants as kind
 use Rattle.pei_asm.specs.Canonical.{canonical}
@@ -15,42 +16,63 @@ use Rattle.pei_asm.specs.Spelling.{Spells}
 use Rattle.pei_loader.specs.Faults.{IsLoadRefusal}
 use Rattle.pei_loader.specs.declared.faults.LoadFault.{LoadFault}
 use Rattle.pei_loader.specs.declared.faults.LoadFault.TheVariants as load
+use Rattle.machine_file.specs.Faults.{refusal_of}
+use Rattle.machine_file.specs.Machine.{DescribesOf, IsBuiltIn, file_fault, table_of}
 use Rattle.sched_run.specs.Scheduled.{run_of}
 use Rattle.sched_run.specs.SixLaws.{SixLaws}
 use Rattle.workload_gen.specs.Generated.{generated}
+use Rattle.pei_cli.specs.Commands.{MachineWord, BuiltIn, FromFile}
 use Rattle.pei_cli.specs.Jobs.{Job, Asked, Runs, Prints, Generates}
-use Rattle.pei_cli.specs.Machines.{IsBuiltIn}
+use Rattle.pei_cli.specs.Uses.{FileUse, SinkUse, IsUnopened}
 use Rattle.pei_cli.specs.declared.ends.PlainEnd.{PlainEnd}
 use Rattle.pei_cli.specs.declared.ends.PlainEnd.TheVariants as ends
 use Rattle.pei_cli.specs.declared.faults.Fault.{Fault}
 use Rattle.pei_cli.specs.declared.faults.Fault.TheVariants as fault
 
+-- ---- reading a file
+
+-- The file of this name was opened and read: these bytes are what it holds, where that is told, as many were taken, and
+-- they are no more than a file may have.
+pub record IsRead (u : FileUse) (file bytes : List ℕ) : Type 0 where
+  pub named : u.name ≡ Some file
+  pub content : IfSome (u.held file) (λ b. bytes ≡ b)
+  pub count : u.taken ≡ length bytes
+  pub within : length bytes ≤ 1048576
+
+-- Why the file of this name was not read: it has more bytes than it may have, of which one more than that was taken; or it
+-- could not be opened or read, and that was counted. Want of memory is free.
+abbrev pub FailsToRead : Which → List ℕ → FileUse → Fault → Type 0
+FailsToRead w file u (fault.InputTooLong x) =
+    (x ≡ w) × (u.name ≡ Some file) × (u.taken ≡ 1048577) × IfSome (u.held file) (λ b. 1048576 < length b)
+FailsToRead w file u (fault.ReadFault x) = (x ≡ w) × (u.name ≡ Some file) × Rose u.faults u.faults_now × (u.taken ≤ 1048576)
+FailsToRead w file u fault.OutOfMemory = ⊤
+FailsToRead w file u _ = ⊥
+
 -- ---- reading the program
 
--- The text was read: it is what the file holds, where that is told, as many bytes were taken, and they are no more than
--- a program may have.
-pub record IsRead (held : Option (List ℕ)) (taken : ℕ) (text : List ℕ) : Type 0 where
-  pub content : IfSome held (λ bytes. text ≡ bytes)
-  pub count : taken ≡ length text
-  pub within : length text ≤ 1048576
+-- The program that the file's text spells, or why there is none: the first fault of the text, or that it was not read.
+abbrev pub ReadsProgram : List ℕ → FileUse → Result Listing Fault → Type 0
+ReadsProgram file u (Ok p) = (text : List ℕ) × IsRead u file text × Spells text p
+ReadsProgram file u (Err (fault.ProgramBad f)) =
+    (f.kind ≢ kind.OutOfMemory) × (text : List ℕ) × IsRead u file text × (first_fault text ≡ Some f)
+ReadsProgram file u (Err f) = FailsToRead which.Program file u f
 
--- The program that the text spells, or why there is none: the first fault of the text, a text that is too long, or a fault
--- of the file.
-abbrev pub ReadsProgram : Option (List ℕ) → ℕ → ℕ → ℕ → Result Listing Fault → Type 0
-ReadsProgram held taken faults faults_now (Ok p) = (text : List ℕ) × IsRead held taken text × Spells text p
-ReadsProgram held taken faults faults_now (Err (fault.ProgramBad f)) =
-    (f.kind ≢ kind.OutOfMemory) × (text : List ℕ) × IsRead held taken text × (first_fault text ≡ Some f)
-ReadsProgram held taken faults faults_now (Err (fault.InputTooLong w)) =
-    (w ≡ which.Program) × (taken ≡ 1048577) × IfSome held (λ bytes. 1048576 < length bytes)
-ReadsProgram held taken faults faults_now (Err (fault.ReadFault w)) = (w ≡ which.Program) × Rose faults faults_now × (taken ≤ 1048576)
-ReadsProgram held taken faults faults_now (Err fault.OutOfMemory) = ⊤
-ReadsProgram held taken faults faults_now (Err _) = ⊥
+-- ---- reading the machine
+
+-- The built-in machine, for which no file is opened; or the machine that the file describes, or why there is none: the
+-- first fault of the file, and never want of memory in its place, or that it was not read.
+abbrev pub ReadsMachine : MachineWord → FileUse → Result MachineSpec Fault → Type 0
+ReadsMachine (BuiltIn cores) u (Ok m) = IsBuiltIn cores m × IsUnopened u
+ReadsMachine (BuiltIn cores) u (Err f) = ⊥
+ReadsMachine (FromFile file) u (Ok m) = (bytes : List ℕ) × IsRead u file bytes × DescribesOf (table_of bytes) m
+ReadsMachine (FromFile file) u (Err (fault.MachineBad f)) =
+    (bytes : List ℕ) × IsRead u file bytes × IsSomeAnd (refusal_of f) (λ r. file_fault bytes ≡ Some r)
+ReadsMachine (FromFile file) u (Err f) = FailsToRead which.Machine file u f
 
 -- ---- running it
 
--- the machine of the job, with the program loaded, of which nothing was refused
-pub record Begins (job : Job) (p : Listing) (m : MachineSpec) (image : Contents) : Type 0 where
-  pub machine : IsBuiltIn job.cores m
+-- the program is loaded on the machine, and nothing of it was refused
+pub record Begins (p : Listing) (m : MachineSpec) (image : Contents) : Type 0 where
   pub whole : load_refusal p m ≡ None
   pub loaded : IsImageOf p m image
 
@@ -70,54 +92,61 @@ IsAnswerOf m r (ends.Sched status journal cores turns) =
 IsAnswerOf m r (ends.Text status) = ⊥
 
 -- The report of the run was written: the whole, or a front of it.
-abbrev pub Reports : Listing → MachineSpec → Contents → Run → Option (List ℕ) → Option (List ℕ) → Type 0
-Reports p m image r before now = Added (report_text p m image r.journal) before now
+abbrev pub Reports : Listing → MachineSpec → Contents → Run → SinkUse → Type 0
+Reports p m image r sink = Added (report_text p m image r.journal) sink.before sink.now
 
-abbrev pub ReportsFront : Listing → MachineSpec → Contents → Run → Option (List ℕ) → Option (List ℕ) → Type 0
-ReportsFront p m image r before now = (n : ℕ) × (n ≤ length (report_text p m image r.journal)) × Added (take n (report_text p m image r.journal)) before now
+abbrev pub ReportsFront : Listing → MachineSpec → Contents → Run → SinkUse → Type 0
+ReportsFront p m image r sink =
+    (n : ℕ) × (n ≤ length (report_text p m image r.journal)) × Added (take n (report_text p m image r.journal)) sink.before sink.now
 
--- The run of a program, which keeps the six laws, and its report, or why there is none. Before a fault other than that of writing, nothing was written.
-abbrev pub RunsJob : Job → Listing → Option (List ℕ) → Option (List ℕ) → ℕ → ℕ → Result PlainEnd Fault → Type 0
-RunsJob job p before now faults faults_now (Ok end) =
-    (m : MachineSpec) × (image : Contents) × Begins job p m image × IsAnswerOf m (run_of_job job p m image) end
-    × SixLaws p m image (run_of_job job p m image).journal × Reports p m image (run_of_job job p m image) before now
-RunsJob job p before now faults faults_now (Err fault.WriteFault) =
-    (m : MachineSpec) × (image : Contents) × Begins job p m image × ReportsFront p m image (run_of_job job p m image) before now × Rose faults faults_now
-RunsJob job p before now faults faults_now (Err (fault.LoadBad f)) =
-    (m : MachineSpec) × IsBuiltIn job.cores m × IsFirstLoadFault p m f × (now ≡ before)
-RunsJob job p before now faults faults_now (Err fault.OutOfMemory) = now ≡ before
-RunsJob job p before now faults faults_now (Err _) = ⊥
+-- The run of a program on a machine, which keeps the six laws, and its report, or why there is none. Before a fault other
+-- than that of writing, nothing was written.
+abbrev pub RunsJob : Job → Listing → MachineSpec → SinkUse → Result PlainEnd Fault → Type 0
+RunsJob job p m sink (Ok end) =
+    (image : Contents) × Begins p m image × IsAnswerOf m (run_of_job job p m image) end
+    × SixLaws p m image (run_of_job job p m image).journal × Reports p m image (run_of_job job p m image) sink
+RunsJob job p m sink (Err fault.WriteFault) =
+    (image : Contents) × Begins p m image × ReportsFront p m image (run_of_job job p m image) sink × Rose sink.faults sink.faults_now
+RunsJob job p m sink (Err (fault.LoadBad f)) = IsFirstLoadFault p m f × (sink.now ≡ sink.before)
+RunsJob job p m sink (Err fault.OutOfMemory) = sink.now ≡ sink.before
+RunsJob job p m sink (Err _) = ⊥
 
 -- ---- printing it
 
 -- The canonical text of the program was written, or a front of it. Before a fault other than that of writing, nothing was
 -- written.
-abbrev pub PrintsProgram : Listing → Option (List ℕ) → Option (List ℕ) → ℕ → ℕ → Result PlainEnd Fault → Type 0
-PrintsProgram p before now faults faults_now (Ok (ends.Text status)) = (status ≡ 0) × Added (canonical p) before now
-PrintsProgram p before now faults faults_now (Err fault.WriteFault) =
-    ((k : ℕ) × (k ≤ length (canonical p)) × Added (take k (canonical p)) before now) × Rose faults faults_now
-PrintsProgram p before now faults faults_now (Err fault.OutOfMemory) = now ≡ before
-PrintsProgram p before now faults faults_now _ = ⊥
+abbrev pub PrintsProgram : Listing → SinkUse → Result PlainEnd Fault → Type 0
+PrintsProgram p sink (Ok (ends.Text status)) = (status ≡ 0) × Added (canonical p) sink.before sink.now
+PrintsProgram p sink (Err fault.WriteFault) =
+    ((k : ℕ) × (k ≤ length (canonical p)) × Added (take k (canonical p)) sink.before sink.now) × Rose sink.faults sink.faults_now
+PrintsProgram p sink (Err fault.OutOfMemory) = sink.now ≡ sink.before
+PrintsProgram p sink _ = ⊥
 
 -- ---- a generated program
 
 -- The generated program of a number was written, or a front of it.
-abbrev pub WritesGenerated : ℕ → Option (List ℕ) → Option (List ℕ) → ℕ → ℕ → Result PlainEnd Fault → Type 0
-WritesGenerated n before now faults faults_now (Ok (ends.Text status)) = (status ≡ 0) × Added (generated n) before now
-WritesGenerated n before now faults faults_now (Err fault.WriteFault) =
-    ((k : ℕ) × (k ≤ length (generated n)) × Added (take k (generated n)) before now) × Rose faults faults_now
-WritesGenerated n before now faults faults_now _ = ⊥
+abbrev pub WritesGenerated : ℕ → SinkUse → Result PlainEnd Fault → Type 0
+WritesGenerated n sink (Ok (ends.Text status)) = (status ≡ 0) × Added (generated n) sink.before sink.now
+WritesGenerated n sink (Err fault.WriteFault) =
+    ((k : ℕ) × (k ≤ length (generated n)) × Added (take k (generated n)) sink.before sink.now) × Rose sink.faults sink.faults_now
+WritesGenerated n sink _ = ⊥
 
 -- ---- the whole command
 
--- A run, or a canonical text: the program was not read, and nothing was written; or it was, and this is its run, or its
--- text. Or a generated program. `held` tells what a file of a name holds.
-abbrev pub Serves : Asked → (List ℕ → Option (List ℕ)) → ℕ → ℕ → ℕ → Option (List ℕ) → Option (List ℕ) → ℕ → ℕ → Result PlainEnd Fault → Type 0
-Serves (Runs job) held taken faults faults_now before now sink_faults sink_faults_now result =
-    ((f : Fault) × (result ≡ Err f) × ReadsProgram (held job.program) taken faults faults_now (Err f) × (now ≡ before))
-    ⊎ ((p : Listing) × ReadsProgram (held job.program) taken faults faults_now (Ok p) × RunsJob job p before now sink_faults sink_faults_now result)
-Serves (Prints file) held taken faults faults_now before now sink_faults sink_faults_now result =
-    ((f : Fault) × (result ≡ Err f) × ReadsProgram (held file) taken faults faults_now (Err f) × (now ≡ before))
-    ⊎ ((p : Listing) × ReadsProgram (held file) taken faults faults_now (Ok p) × PrintsProgram p before now sink_faults sink_faults_now result)
-Serves (Generates n) held taken faults faults_now before now sink_faults sink_faults_now result =
-    WritesGenerated n before now sink_faults sink_faults_now result
+-- The machine was not read, and nothing was written; or it was, and this is the program's run on it.
+abbrev pub RunsOnMachine : Job → Listing → FileUse → SinkUse → Result PlainEnd Fault → Type 0
+RunsOnMachine job p u sink result =
+    ((f : Fault) × (result ≡ Err f) × ReadsMachine job.machine u (Err f) × (sink.now ≡ sink.before))
+    ⊎ ((m : MachineSpec) × ReadsMachine job.machine u (Ok m) × RunsJob job p m sink result)
+
+-- A run: the program was not read, no file of a machine was opened, and nothing was written; or the program was read, and
+-- what comes behind it is the above. A canonical text: the program was not read, and nothing was written; or it was, and
+-- this is its text. Or a generated program.
+abbrev pub Serves : Asked → (Which → FileUse) → SinkUse → Result PlainEnd Fault → Type 0
+Serves (Runs job) uses sink result =
+    ((f : Fault) × (result ≡ Err f) × ReadsProgram job.program (uses which.Program) (Err f) × IsUnopened (uses which.Machine) × (sink.now ≡ sink.before))
+    ⊎ ((p : Listing) × ReadsProgram job.program (uses which.Program) (Ok p) × RunsOnMachine job p (uses which.Machine) sink result)
+Serves (Prints file) uses sink result =
+    ((f : Fault) × (result ≡ Err f) × ReadsProgram file (uses which.Program) (Err f) × (sink.now ≡ sink.before))
+    ⊎ ((p : Listing) × ReadsProgram file (uses which.Program) (Ok p) × PrintsProgram p sink result)
+Serves (Generates n) uses sink result = WritesGenerated n sink result

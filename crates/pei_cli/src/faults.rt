@@ -1,17 +1,18 @@
 //! Why a command was refused.
 
-ghost use Rattle.std.specs.Prelude.{◌≡◌};
+ghost use Rattle.std.specs.Prelude.{◌≡◌, Some, option_map};
 ghost use Rattle.pei_io.specs.Outside.{Writes};
-ghost use Rattle.pei_cli.specs.FaultLines.{fault_of_loading, fault_of_text, status_of_fault, fault_line, load_line, asm_word, which_word};
+ghost use Rattle.pei_cli.specs.FaultLines.{fault_of_loading, fault_of_machine, fault_of_text, status_of_fault, fault_line, load_line, machine_kind, machine_line, told_key, asm_word, which_word};
 
 use crate::writing::write_pieces;
 use itoa::Buffer;
+use machine_file::MachineFault;
 use pei_asm::{AsmFault, AsmKind};
 use pei_io::{Failed, Sink, Which};
 use pei_loader::LoadFault;
 
 /// Why a command was refused.
-#[derive(Clone, Copy, PartialEq, Eq, Debug)]
+#[derive(Drop)]
 pub enum Fault {
     /// The words name no command.
     Usage,
@@ -19,6 +20,8 @@ pub enum Fault {
     ProgramBad(AsmFault),
     /// The program can't be loaded.
     LoadBad(LoadFault),
+    /// The machine's file is refused.
+    MachineBad(MachineFault),
     /// A file has more bytes than it may have.
     InputTooLong { which: Which },
     /// A file could not be opened or read.
@@ -49,6 +52,16 @@ pub(crate) fn load_fault(fault: LoadFault) -> Fault
     }
 }
 
+/// The fault of a command whose machine's file has a fault. Want of memory is told as such.
+pub(crate) fn machine_fault(fault: MachineFault) -> Fault
+    ensures { result ≡ fault_of_machine fault }
+{
+    match fault {
+        MachineFault::OutOfMemory => Fault::OutOfMemory,
+        fault => Fault::MachineBad(fault),
+    }
+}
+
 /// The status with which the program ends at a fault.
 pub fn status_of(fault: &Fault) -> u8
     ensures { result ≡ status_of_fault fault.now }
@@ -56,6 +69,7 @@ pub fn status_of(fault: &Fault) -> u8
     match fault {
         Fault::Usage => 2,
         Fault::ProgramBad(_) | Fault::LoadBad(_) => 3,
+        Fault::MachineBad(_) => 4,
         Fault::InputTooLong { .. } => 13,
         Fault::ReadFault { .. } => 8,
         Fault::WriteFault => 9,
@@ -74,6 +88,7 @@ pub fn write_fault<K: Sink>(fault: &Fault, sink: &mut K) -> Result<(), Failed>
         ),
         Fault::ProgramBad(fault) => write_program_bad(fault, sink),
         Fault::LoadBad(fault) => write_load_bad(fault, sink),
+        Fault::MachineBad(fault) => write_machine_bad(fault, sink),
         Fault::InputTooLong { which } => write_too_long(*which, sink),
         Fault::ReadFault { which } => {
             write_pieces(sink, &[b"read fault ", which_word(*which), b"\n"])
@@ -158,6 +173,53 @@ fn write_load_fault<K: Sink>(kind: &[u8], number: u64, sink: &mut K) -> Result<(
             b"\n",
         ],
     )
+}
+
+/// Writes the line of a fault of a machine's file: its kind, and the key where the kind has one.
+fn write_machine_bad<K: Sink>(fault: &MachineFault, sink: &mut K) -> Result<(), Failed>
+    ensures { Writes (fault_line (Fault.MachineBad fault.now)) (K.written sink.old) (K.written sink.new) (K.faults sink.old) (K.faults sink.new) result }
+{
+    match told_key(fault) {
+        Some(key) => write_keyed(machine_kind(fault), key, sink),
+        None => write_pieces(sink, &[b"machine bad ", machine_kind(fault), b"\n"]),
+    }
+}
+
+/// Writes the line of a fault of a machine's file whose kind has a key.
+fn write_keyed<K: Sink>(kind: &[u8], key: &str, sink: &mut K) -> Result<(), Failed>
+    ensures { Writes (machine_line kind.now (Some key.now)) (K.written sink.old) (K.written sink.new) (K.faults sink.old) (K.faults sink.new) result }
+{
+    write_pieces(sink, &[b"machine bad ", kind, b" ", key.as_bytes(), b"\n"])
+}
+
+/// The word for what is wrong with a machine's file.
+fn machine_kind(fault: &MachineFault) -> &'static [u8]
+    ensures { result.now ≡ machine_kind fault.now }
+{
+    match fault {
+        MachineFault::BadToml => b"BadToml",
+        MachineFault::UnknownKey { .. } => b"UnknownKey",
+        MachineFault::MissingKey { .. } => b"MissingKey",
+        MachineFault::NotInteger { .. } => b"NotInteger",
+        MachineFault::OutOfLimits { .. } => b"OutOfLimits",
+        MachineFault::NotPowerOfTwo { .. } => b"NotPowerOfTwo",
+        MachineFault::BadPolicy => b"BadPolicy",
+        MachineFault::OutOfMemory => b"OutOfMemory",
+    }
+}
+
+/// The key that a fault of a machine's file names.
+fn told_key(fault: &MachineFault) -> Option<&str>
+    ensures { option_map (λ key. key.now) result ≡ told_key fault.now }
+{
+    match fault {
+        MachineFault::UnknownKey { key } => Some(key.as_str()),
+        MachineFault::MissingKey { key }
+        | MachineFault::NotInteger { key }
+        | MachineFault::OutOfLimits { key }
+        | MachineFault::NotPowerOfTwo { key } => Some(key.name()),
+        MachineFault::BadToml | MachineFault::BadPolicy | MachineFault::OutOfMemory => None,
+    }
 }
 
 /// The word for one of a command's files.

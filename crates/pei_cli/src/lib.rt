@@ -3,7 +3,9 @@
 
 mod ends;
 mod faults;
-mod machines;
+mod printing;
+mod reading;
+mod running;
 mod serving;
 mod status;
 mod words;
@@ -11,6 +13,7 @@ mod writing;
 
 pub use ends::PlainEnd;
 pub use faults::{Fault, status_of, write_fault};
+pub use machine_file::MachineFault;
 pub use pei_loader::LoadFault;
 pub use serving::plain;
 

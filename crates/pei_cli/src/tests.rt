@@ -28,29 +28,34 @@ const RACING: &[u8] = b".entry 0, s\ns: li r1, 4096\npinc r1, 0\nld r2, r1, 0\no
 /// What `RAISE` writes.
 const RAISED: &[u8] = b"out 0 1\ncore 0 halt\nstatus 0\n";
 
-const TOO_LONG: Fault = Fault::InputTooLong {
-    which: Which::Program,
-};
+/// Each core raises the same word a hundred times.
+const RAISE_HUNDRED: &[u8] =
+    b".entry *, s\ns: li r1, 4096\nli r2, 100\nloop: pinc r1, 0\naddi r2, r2, -1\n\
+bne r2, r0, loop\npfence\nhalt\n";
 
-const READ_FAULT: Fault = Fault::ReadFault {
-    which: Which::Program,
-};
+/// Two cores raise words of two blocks, 64 and 67.
+const RAISE_APART: &[u8] =
+    b".entry 0, a\n.entry 1, b\n.show 4096, 1\n.show 4288, 1\na: li r1, 4096\npinc r1, 0\nhalt\n\
+b: li r1, 4288\npinc r1, 0\nhalt\n";
 
-const NO_ENTRY: Fault = Fault::LoadBad(LoadFault::NoEntry { core: 0 });
+/// What `RAISE_APART` writes.
+const RAISED_APART: &[u8] = b"core 0 halt\ncore 1 halt\nmem 4096 1\nmem 4288 1\nstatus 0\n";
 
-/// What a command came to, and its sink.
+/// What a command came to, what it wrote, and the line of its fault.
 #[derive(Drop)]
 struct Served {
     result: Result<PlainEnd, Fault>,
     sink: MemSink,
+    line: MemSink,
 }
 
-/// Serves a command, its words split at spaces, over a program of these bytes. A read and a write move at most `most`
-/// bytes. The read and the write of these numbers, counted from 1, fail.
+/// Serves a command, its words split at spaces, over a program and a machine of these bytes. A read and a write move at
+/// most `most` bytes. The read and the write of these numbers, counted from 1, fail.
 fn serve(
     alloc: Global,
     command: &str,
     program: &[u8],
+    machine: &[u8],
     most: u32,
     read_fails: u32,
     write_fails: u32,
@@ -65,239 +70,437 @@ fn serve(
             }
         }
     }
-    let mut files = MemFiles::make(alloc, program, b"", b"", most, &[read_fails])?;
+    let mut files = MemFiles::make(alloc, program, machine, b"", most, &[read_fails])?;
     let mut sink = MemSink::make(alloc, 4096, most, &[write_fails])?;
     let result = plain(alloc, words.as_slice(), &mut files, &mut sink);
-    Ok(Served { result, sink })
+    let mut line = MemSink::make(alloc, 100, 100, &[])?;
+    if let Err(fault) = &result {
+        let _ = write_fault(fault, &mut line);
+    }
+    Ok(Served { result, sink, line })
 }
 
-/// `RAISE`, and blanks behind it, so many bytes in all.
-fn padded(alloc: Global, len: usize) -> Result<Vec<u8>, OutOfMemory> {
+/// The status of what a command came to.
+fn status(served: &Served) -> u8 {
+    match &served.result {
+        Ok(PlainEnd::Sched { status, .. }) => *status,
+        Ok(PlainEnd::Text { status }) => *status,
+        Err(fault) => status_of(fault),
+    }
+}
+
+/// These bytes, and blanks behind them, so many bytes in all.
+fn padded(alloc: Global, bytes: &[u8], len: usize) -> Result<Vec<u8>, OutOfMemory> {
     let mut text = Vec::new(alloc);
-    let mut whole = text.extend_from_slice(RAISE).is_ok();
+    let mut whole = text.extend_from_slice(bytes).is_ok();
     for _ in text.len()..len {
         whole &= text.push(b' ').is_ok();
     }
     if whole { Ok(text) } else { Err(OutOfMemory) }
 }
 
-/// A fault of a program's text.
-fn bad(line: u32, column: u32, kind: AsmKind) -> Fault {
-    Fault::ProgramBad(AsmFault { line, column, kind })
-}
+/// A run: its command, the program and the machine, the bytes that a read or a write moves at most, what it writes, its
+/// status, and the numbers of its events and turns. The turns to a full journal were not worked out, and stand as 0.
+type Row = (
+    &'static str,
+    &'static [u8],
+    &'static [u8],
+    u32,
+    &'static [u8],
+    u8,
+    u32,
+    u64,
+);
+
+/// With one entry of its operand buffer a core has two actors, so each of its turns but the first comes two turns behind
+/// the one before. With two entries of the directory, blocks 64 and 67 share one, and the second core's PEI enters behind
+/// the first one's end.
+const REPORTED: [Row; 15] = [
+    ("sched p -1 rr 1000", RAISE, b"", 5000, RAISED, 0, 11, 41),
+    ("sched p -1 rr 1000", RAISE, b"", 1, RAISED, 0, 11, 41),
+    (
+        "sched p -1 rr 40",
+        RAISE,
+        b"",
+        5000,
+        b"out 0 1\ncore 0 unfinished\nstatus 7\n",
+        7,
+        10,
+        40,
+    ),
+    (
+        "sched p -1 rr 0",
+        RAISE,
+        b"",
+        5000,
+        b"core 0 unfinished\nstatus 7\n",
+        7,
+        0,
+        0,
+    ),
+    (
+        "sched p -1 rr 1000",
+        SEVEN,
+        b"",
+        5000,
+        b"out 0 7\ncore 0 halt\nstatus 0\n",
+        0,
+        2,
+        6,
+    ),
+    (
+        "sched p -2 rr 10000",
+        RAISE_BY_ALL,
+        b"",
+        5000,
+        b"out 0 6\ncore 0 halt\nout 1 6\ncore 1 halt\nstatus 0\n",
+        0,
+        46,
+        286,
+    ),
+    (
+        "sched p -1 rr 1000",
+        RACING,
+        b"",
+        5000,
+        b"core 0 race 2 64 0 0\nstatus 5\n",
+        5,
+        8,
+        26,
+    ),
+    (
+        "sched p -1 serial 1000",
+        RACING,
+        b"",
+        5000,
+        b"core 0 race 2 64 0 0\nstatus 5\n",
+        5,
+        8,
+        13,
+    ),
+    (
+        "sched p m rr 100000",
+        RAISE_HUNDRED,
+        b"cores = 1\nblocks = 1024\nevents = 64\n",
+        5000,
+        b"core 0 unfinished\nstatus 6\n",
+        6,
+        64,
+        0,
+    ),
+    (
+        "sched p m rr 1000",
+        RAISE,
+        b"cores = 1\nblocks = 1024\nbuffer = 1\n",
+        5000,
+        RAISED,
+        0,
+        11,
+        17,
+    ),
+    (
+        "sched p -9 rr 1000",
+        RAISE,
+        b"cores = 1\nblocks = 1024\nbuffer = 1\n",
+        1,
+        RAISED,
+        0,
+        11,
+        17,
+    ),
+    (
+        "sched p m rr 1000",
+        RAISE,
+        b"cores = 1\nblocks = 64\n",
+        5000,
+        b"core 0 trap 1 range\nstatus 5\n",
+        5,
+        1,
+        1,
+    ),
+    (
+        "sched p m rr 1000",
+        SEVEN,
+        b"cores = 1\nblocks = 16\nfuel = 2\n",
+        5000,
+        b"out 0 7\ncore 0 fuel\nstatus 5\n",
+        5,
+        2,
+        6,
+    ),
+    (
+        "sched p m rr 1000",
+        RAISE_APART,
+        b"cores = 2\nblocks = 128\n",
+        5000,
+        RAISED_APART,
+        0,
+        14,
+        56,
+    ),
+    (
+        "sched p m rr 1000",
+        RAISE_APART,
+        b"cores = 2\nblocks = 128\ndirectory = 2\n",
+        5000,
+        RAISED_APART,
+        0,
+        14,
+        96,
+    ),
+];
 
 #[test]
 fn runs_are_reported(rt: HostRuntime) -> Result<(), Fail> {
-    for (command, program, most, want, want_status, events, want_turns) in [
-        ("sched p -1 rr 1000", RAISE, 5000, RAISED, 0, 11, 41),
-        ("sched p -1 rr 1000", RAISE, 1, RAISED, 0, 11, 41),
-        (
-            "sched p -1 rr 40",
-            RAISE,
-            5000,
-            b"out 0 1\ncore 0 unfinished\nstatus 7\n",
-            7,
-            10,
-            40,
-        ),
-        (
-            "sched p -1 rr 0",
-            RAISE,
-            5000,
-            b"core 0 unfinished\nstatus 7\n",
-            7,
-            0,
-            0,
-        ),
-        (
-            "sched p -1 rr 1000",
-            SEVEN,
-            5000,
-            b"out 0 7\ncore 0 halt\nstatus 0\n",
-            0,
-            2,
-            6,
-        ),
-        (
-            "sched p -2 rr 10000",
-            RAISE_BY_ALL,
-            5000,
-            b"out 0 6\ncore 0 halt\nout 1 6\ncore 1 halt\nstatus 0\n",
-            0,
-            46,
-            286,
-        ),
-        (
-            "sched p -1 rr 1000",
-            RACING,
-            5000,
-            b"core 0 race 2 64 0 0\nstatus 5\n",
-            5,
-            8,
-            26,
-        ),
-        (
-            "sched p -1 serial 1000",
-            RACING,
-            5000,
-            b"core 0 race 2 64 0 0\nstatus 5\n",
-            5,
-            8,
-            13,
-        ),
-    ] {
+    for (command, program, machine, most, want, want_status, events, want_turns) in REPORTED {
         assert!(rt; most > 0);
-        let served = serve(rt.alloc(), command, program, most, 0, 0)?;
+        let served = serve(rt.alloc(), command, program, machine, most, 0, 0)?;
         assert_eq!(rt; served.sink.bytes(), want, "{command}");
-        let PlainEnd::Sched {
-            status,
-            journal,
-            turns,
-            ..
-        } = served.result?
-        else {
+        let Ok(PlainEnd::Sched { journal, turns, .. }) = &served.result else {
             assert!(rt; false, "{command}");
             continue;
         };
-        assert_eq!(rt; status, want_status, "{command}");
+        assert_eq!(rt; status(&served), want_status, "{command}");
         assert_eq!(rt; journal.len(), events, "{command}");
-        assert_eq!(rt; turns, want_turns, "{command}");
+        assert!(rt; *turns == want_turns || want_status == 6, "{command}");
     }
     Ok(())
 }
 
 #[test]
-fn seeds_are_numbers_of_64_bits(rt: HostRuntime) -> Result<(), Fail> {
+fn runs_come_to_their_end(rt: HostRuntime) -> Result<(), Fail> {
     for command in [
         "sched p -1 01 100000",
         "sched p -1 18446744073709551615 100000",
+        "sched p -1 serial 640064",
     ] {
-        let served = serve(rt.alloc(), command, RAISE, 5000, 0, 0)?;
+        let served = serve(rt.alloc(), command, RAISE, b"", 5000, 0, 0)?;
         assert_eq!(rt; served.sink.bytes(), RAISED, "{command}");
-        assert_eq!(rt; served.result.err(), None, "{command}");
+        assert_eq!(rt; status(&served), 0, "{command}");
     }
     Ok(())
 }
 
+/// What is said to words that name no command.
+const USAGE: &str = "usage: peisim asm or sched or run or check or gen\n";
+
+/// Commands over a program, their status, and the line of their fault.
+const REFUSED: [(&str, &str, u8, &str); 28] = [
+    ("sched p -1 rr 1000", "", 3, "load bad NoEntry 0\n"),
+    (
+        "sched p -1 rr 1000",
+        "pdot r4, r13, 0, r13",
+        3,
+        "program bad 1:18 RegisterRange\n",
+    ),
+    (
+        "sched p -1 rr 1000",
+        "x: halt\nx: halt",
+        3,
+        "program bad 2:1 DoubleLabel\n",
+    ),
+    (
+        "sched p -1 rr 1000",
+        "jmp y",
+        3,
+        "program bad 1:5 UnknownLabel\n",
+    ),
+    (
+        "sched p -1 rr 1000",
+        "halt\nfrobnicate r1\n",
+        3,
+        "program bad 2:1 UnknownName\n",
+    ),
+    (
+        "sched p -1 rr 1000",
+        ".data 4, 41, 42\n.sum 262136, 2\n",
+        3,
+        "load bad DataMisaligned 4\n",
+    ),
+    (
+        "sched p -1 rr 1000",
+        ".data 262136, 41, 42\n",
+        3,
+        "load bad DataOutOfRange 262144\n",
+    ),
+    (
+        "sched p -1 rr 1000",
+        ".data 0, 41\n.sum 262136, 2\n",
+        3,
+        "load bad ShowOutOfRange 262136\n",
+    ),
+    ("", "", 2, USAGE),
+    ("sched p -1 rr", "", 2, USAGE),
+    ("sched p -1 rr 1000 more", "", 2, USAGE),
+    ("sched p -1 rr 1000 trace", "", 2, USAGE),
+    ("run p -1", "", 2, USAGE),
+    ("run p -1 rr 1000", "", 2, USAGE),
+    ("asm", "", 2, USAGE),
+    ("asm p q", "", 2, USAGE),
+    (
+        "asm p",
+        "halt\n  halt halt",
+        3,
+        "program bad 2:3 WrongOperands\n",
+    ),
+    ("gen", "", 2, USAGE),
+    ("gen +1", "", 2, USAGE),
+    ("gen 18446744073709551616", "", 2, USAGE),
+    ("gen 1 trace", "", 2, USAGE),
+    (
+        "sched p -0 rr 1000",
+        ".entry 0, s\ns: halt",
+        4,
+        "machine bad MissingKey cores\n",
+    ),
+    ("sched p -1 +1 1000", "", 2, USAGE),
+    ("sched p -1  1000", "", 2, USAGE),
+    ("sched p m +1 1000", "", 2, USAGE),
+    ("sched p -1 18446744073709551616 1000", "", 2, USAGE),
+    ("sched p -1 rr 1000000001", "", 2, USAGE),
+    ("check p -1 t", "", 2, USAGE),
+];
+
 #[test]
-fn other_commands_write_nothing(rt: HostRuntime) -> Result<(), Fail> {
-    let too_long = padded(rt.alloc(), 1_048_577)?;
-    for (command, program, want) in [
-        ("sched p -1 rr 1000", b"".as_slice(), NO_ENTRY),
-        ("sched p -1 rr 1000", too_long.as_slice(), TOO_LONG),
-        (
-            "sched p -1 rr 1000",
-            b"pdot r4, r13, 0, r13".as_slice(),
-            bad(1, 18, AsmKind::RegisterRange),
-        ),
-        (
-            "sched p -1 rr 1000",
-            b"x: halt\nx: halt".as_slice(),
-            bad(2, 1, AsmKind::DoubleLabel),
-        ),
-        (
-            "sched p -1 rr 1000",
-            b"jmp y".as_slice(),
-            bad(1, 5, AsmKind::UnknownLabel),
-        ),
-        (
-            "sched p -1 rr 1000",
-            b"halt\nfrobnicate r1\n".as_slice(),
-            bad(2, 1, AsmKind::UnknownName),
-        ),
-        (
-            "sched p -1 rr 1000",
-            b".data 4, 41, 42\n.sum 262136, 2\n".as_slice(),
-            Fault::LoadBad(LoadFault::DataMisaligned { addr: 4 }),
-        ),
-        (
-            "sched p -1 rr 1000",
-            b".data 262136, 41, 42\n".as_slice(),
-            Fault::LoadBad(LoadFault::DataOutOfRange { addr: 262_144 }),
-        ),
-        (
-            "sched p -1 rr 1000",
-            b".data 0, 41\n.sum 262136, 2\n".as_slice(),
-            Fault::LoadBad(LoadFault::ShowOutOfRange { addr: 262_136 }),
-        ),
-        ("", RAISE, Fault::Usage),
-        ("sched p -1 rr", RAISE, Fault::Usage),
-        ("sched p -1 rr 1000 more", RAISE, Fault::Usage),
-        ("sched p -1 rr 1000 trace", RAISE, Fault::Usage),
-        ("run p -1", RAISE, Fault::Usage),
-        ("run p -1 rr 1000", RAISE, Fault::Usage),
-        ("asm", RAISE, Fault::Usage),
-        ("asm p q", RAISE, Fault::Usage),
-        (
-            "asm p",
-            b"halt\n  halt halt",
-            bad(2, 3, AsmKind::WrongOperands),
-        ),
-        ("gen", RAISE, Fault::Usage),
-        ("gen +1", RAISE, Fault::Usage),
-        ("gen 18446744073709551616", RAISE, Fault::Usage),
-        ("gen 1 trace", RAISE, Fault::Usage),
-        ("sched p -0 rr 1000", RAISE, Fault::Usage),
-        ("sched p -9 rr 1000", RAISE, Fault::Usage),
-        ("sched p -1 +1 1000", RAISE, Fault::Usage),
-        ("sched p -1  1000", RAISE, Fault::Usage),
-        ("sched p -1 18446744073709551616 1000", RAISE, Fault::Usage),
-        ("sched p -1 rr 1000000001", RAISE, Fault::Usage),
-    ] {
-        let served = serve(rt.alloc(), command, program, 5000, 0, 0)?;
-        assert_eq!(rt; served.result.err(), Some(want), "{command}");
+fn refused_commands_write_nothing(rt: HostRuntime) -> Result<(), Fail> {
+    for (command, program, want_status, line) in REFUSED {
+        let served = serve(rt.alloc(), command, program.as_bytes(), b"", 5000, 0, 0)?;
+        assert_eq!(rt; served.line.bytes(), line.as_bytes(), "{command}");
+        assert_eq!(rt; status(&served), want_status, "{command}");
         assert_eq!(rt; served.sink.bytes(), b"".as_slice(), "{command}");
     }
     Ok(())
 }
 
+/// Programs and machines, the status of a run, and the line of its fault: the program's comes first, then the machine's,
+/// then that of loading.
+const REFUSED_MACHINES: [(&[u8], &str, u8, &str); 12] = [
+    (
+        RAISE,
+        "cores = 9\nblocks = 64\n",
+        4,
+        "machine bad OutOfLimits cores\n",
+    ),
+    (RAISE, "cores = 2\n", 4, "machine bad MissingKey blocks\n"),
+    (
+        RAISE,
+        "x = 1\ncores = 1\nblocks = 64\n",
+        4,
+        "machine bad UnknownKey x\n",
+    ),
+    (RAISE, "'a b' = 1\n", 4, "machine bad UnknownKey a b\n"),
+    (
+        RAISE,
+        "cores = 1\nblocks = 128\nbanks = 2\n",
+        4,
+        "machine bad OutOfLimits banks\n",
+    ),
+    (RAISE, "cores = ", 4, "machine bad BadToml\n"),
+    (
+        RAISE,
+        "cores = 1.0\nblocks = 64\n",
+        4,
+        "machine bad NotInteger cores\n",
+    ),
+    (
+        RAISE,
+        "cores = 1\nblocks = 64\nvaults = 3\n",
+        4,
+        "machine bad NotPowerOfTwo vaults\n",
+    ),
+    (
+        RAISE,
+        "cores = 1\nblocks = 64\nplacement = 1\n",
+        4,
+        "machine bad BadPolicy\n",
+    ),
+    (
+        b"frobnicate r1\n",
+        "cores = 9\n",
+        3,
+        "program bad 1:1 UnknownName\n",
+    ),
+    (
+        b"",
+        "cores = 9\nblocks = 64\n",
+        4,
+        "machine bad OutOfLimits cores\n",
+    ),
+    (
+        RAISE_BY_ALL,
+        "cores = 1\nblocks = 64\nfuel = 0\n",
+        4,
+        "machine bad OutOfLimits fuel\n",
+    ),
+];
+
+#[test]
+fn refused_machines_write_nothing(rt: HostRuntime) -> Result<(), Fail> {
+    for (program, machine, want_status, line) in REFUSED_MACHINES {
+        let served = serve(
+            rt.alloc(),
+            "sched p m rr 1000",
+            program,
+            machine.as_bytes(),
+            5000,
+            0,
+            0,
+        )?;
+        assert_eq!(rt; served.line.bytes(), line.as_bytes(), "{machine}");
+        assert_eq!(rt; status(&served), want_status, "{machine}");
+        assert_eq!(rt; served.sink.bytes(), b"".as_slice(), "{machine}");
+    }
+    Ok(())
+}
+
+/// Faults that no command above ends with.
 #[test]
 fn faults_have_a_status_and_a_line(rt: HostRuntime) -> Result<(), Fail> {
     for (fault, status, line) in [
         (
-            Fault::Usage,
-            2,
-            b"usage: peisim asm or sched or run or check or gen\n".as_slice(),
+            Fault::ProgramBad(AsmFault {
+                line: 12,
+                column: 345,
+                kind: AsmKind::WrongOperands,
+            }),
+            3,
+            "program bad 12:345 WrongOperands\n",
         ),
         (
-            bad(12, 345, AsmKind::WrongOperands),
+            Fault::LoadBad(LoadFault::NoEntry { core: 7 }),
             3,
-            b"program bad 12:345 WrongOperands\n".as_slice(),
-        ),
-        (TOO_LONG, 13, b"input too long program\n".as_slice()),
-        (
-            Fault::LoadBad(LoadFault::NoEntry { core: 1 }),
-            3,
-            b"load bad NoEntry 1\n".as_slice(),
-        ),
-        (
-            Fault::LoadBad(LoadFault::DataMisaligned { addr: 4 }),
-            3,
-            b"load bad DataMisaligned 4\n".as_slice(),
-        ),
-        (
-            Fault::LoadBad(LoadFault::DataOutOfRange { addr: 262144 }),
-            3,
-            b"load bad DataOutOfRange 262144\n".as_slice(),
+            "load bad NoEntry 7\n",
         ),
         (
             Fault::LoadBad(LoadFault::DataOverlap { addr: 8 }),
             3,
-            b"load bad DataOverlap 8\n".as_slice(),
+            "load bad DataOverlap 8\n",
         ),
         (
             Fault::LoadBad(LoadFault::ShowOutOfRange { addr: u64::MAX }),
             3,
-            b"load bad ShowOutOfRange 18446744073709551615\n".as_slice(),
+            "load bad ShowOutOfRange 18446744073709551615\n",
         ),
-        (READ_FAULT, 8, b"read fault program\n".as_slice()),
-        (Fault::WriteFault, 9, b"write fault\n".as_slice()),
-        (Fault::OutOfMemory, 10, b"out of memory\n".as_slice()),
+        (
+            Fault::ReadFault {
+                which: Which::Trace,
+            },
+            8,
+            "read fault trace\n",
+        ),
+        (
+            Fault::InputTooLong {
+                which: Which::Trace,
+            },
+            13,
+            "input too long trace\n",
+        ),
+        (Fault::OutOfMemory, 10, "out of memory\n"),
     ] {
         let mut sink = MemSink::make(rt.alloc(), 100, 100, &[])?;
         assert_eq!(rt; status_of(&fault), status);
         assert!(rt; write_fault(&fault, &mut sink).is_ok());
-        assert_eq!(rt; sink.bytes(), line);
+        assert_eq!(rt; sink.bytes(), line.as_bytes());
     }
     Ok(())
 }
@@ -308,11 +511,11 @@ fn a_program_is_generated(rt: HostRuntime) -> Result<(), Fail> {
 li r2, 6364136223846793005\nli r3, 1442695040888963407\nli r4, 512\nloop: mul r1, r1, r2\nadd r1, r1, r3\n\
 shr r5, r1, 30\nandi r6, r5, 32760\npinc r6, 65536\nandi r7, r5, 32704\nphist r8, r7, 65536, r0\n\
 addi r4, r4, -1\nbne r4, r0, loop\npfence\nhalt\n";
-    let served = serve(rt.alloc(), "gen 007", b"", 5000, 1, 0)?;
+    let served = serve(rt.alloc(), "gen 007", b"", b"", 5000, 1, 0)?;
     assert_eq!(rt; served.sink.bytes(), want.as_slice());
-    assert_eq!(rt; served.result.err(), None);
-    let failed = serve(rt.alloc(), "gen 7", b"", 5000, 0, 1)?;
-    assert_eq!(rt; failed.result.err(), Some(Fault::WriteFault));
+    assert_eq!(rt; status(&served), 0);
+    let failed = serve(rt.alloc(), "gen 7", b"", b"", 5000, 0, 1)?;
+    assert_eq!(rt; failed.line.bytes(), b"write fault\n".as_slice());
     assert_eq!(rt; failed.sink.bytes(), b"".as_slice());
     Ok(())
 }
@@ -321,29 +524,41 @@ addi r4, r4, -1\nbne r4, r0, loop\npfence\nhalt\n";
 fn canonical_texts_are_written(rt: HostRuntime) -> Result<(), Fail> {
     let program = b".entry 0, s\ns: li r1, 4096\npinc r1, 0\nld r2, r1, 0\nhalt";
     let want = b".entry 0, L0\nL0: li r1, 4096\npinc r1, 0\nld r2, r1, 0\nhalt\n";
-    let served = serve(rt.alloc(), "asm p", program, 5000, 0, 0)?;
+    let served = serve(rt.alloc(), "asm p", program, b"", 5000, 0, 0)?;
     assert_eq!(rt; served.sink.bytes(), want.as_slice());
-    assert_eq!(rt; served.result.err(), None);
-    let again = serve(rt.alloc(), "asm p", served.sink.bytes(), 7, 0, 0)?;
+    assert_eq!(rt; status(&served), 0);
+    let again = serve(rt.alloc(), "asm p", served.sink.bytes(), b"", 7, 0, 0)?;
     assert_eq!(rt; again.sink.bytes(), want.as_slice());
-    let failed = serve(rt.alloc(), "asm p", program, 5000, 0, 1)?;
-    assert_eq!(rt; failed.result.err(), Some(Fault::WriteFault));
+    let failed = serve(rt.alloc(), "asm p", program, b"", 5000, 0, 1)?;
+    assert_eq!(rt; status(&failed), 9);
     assert_eq!(rt; failed.sink.bytes(), b"".as_slice());
     Ok(())
 }
 
-/// The 70 bytes of `RAISE` by reads of twenty are five reads, the last of which meets the end.
+/// The 70 bytes of `RAISE` by reads of twenty are five reads, the last of which meets the end. The 21 bytes of the machine
+/// are three.
 #[test]
 fn reads_fail_where_asked(rt: HostRuntime) -> Result<(), Fail> {
-    for fail in 1u32..9 {
-        let served = serve(rt.alloc(), "sched p -1 rr 1000", RAISE, 20, fail, 0)?;
-        let (want, written) = if fail <= 5 {
-            (Some(READ_FAULT), b"".as_slice())
+    for fail in 1u32..12 {
+        let served = serve(
+            rt.alloc(),
+            "sched p m rr 1000",
+            RAISE,
+            b"cores=1\nblocks=65536\n",
+            20,
+            fail,
+            0,
+        )?;
+        let (line, written, want_status) = if fail <= 5 {
+            (b"read fault program\n".as_slice(), b"".as_slice(), 8)
+        } else if fail <= 8 {
+            (b"read fault machine\n".as_slice(), b"".as_slice(), 8)
         } else {
-            (None, RAISED)
+            (b"".as_slice(), RAISED, 0)
         };
-        assert_eq!(rt; served.result.err(), want, "read {fail}");
+        assert_eq!(rt; served.line.bytes(), line, "read {fail}");
         assert_eq!(rt; served.sink.bytes(), written, "read {fail}");
+        assert_eq!(rt; status(&served), want_status, "read {fail}");
     }
     Ok(())
 }
@@ -366,14 +581,48 @@ fn writes_fail_where_asked(rt: HostRuntime) -> Result<(), Fail> {
         (5000, 4, 29),
     ] {
         assert!(rt; most > 0);
-        let served = serve(rt.alloc(), "sched p -1 rr 1000", RAISE, most, 0, fail)?;
-        let want = if written < 29 {
-            Some(Fault::WriteFault)
-        } else {
-            None
-        };
-        assert_eq!(rt; served.result.err(), want, "write {fail}");
+        let served = serve(rt.alloc(), "sched p -1 rr 1000", RAISE, b"", most, 0, fail)?;
+        let want_status = if written < 29 { 9 } else { 0 };
+        assert_eq!(rt; status(&served), want_status, "write {fail}");
         assert_eq!(rt; served.sink.bytes(), &RAISED[..written], "write {fail}");
+    }
+    Ok(())
+}
+
+/// Files of as many bytes as there may be are read, and of one more are refused: the program before the machine.
+#[test]
+fn the_longest_files_are_accepted(rt: HostRuntime) -> Result<(), Fail> {
+    for (program_len, machine_len, written, line, want_status) in [
+        (1_048_576, 1_048_576, RAISED, "", 0),
+        (
+            1_048_576,
+            1_048_577,
+            b"".as_slice(),
+            "input too long machine\n",
+            13,
+        ),
+        (
+            1_048_577,
+            1_048_577,
+            b"".as_slice(),
+            "input too long program\n",
+            13,
+        ),
+    ] {
+        let program = padded(rt.alloc(), RAISE, program_len)?;
+        let machine = padded(rt.alloc(), b"cores = 1\nblocks = 1024\n#", machine_len)?;
+        let served = serve(
+            rt.alloc(),
+            "sched p m rr 1000",
+            program.as_slice(),
+            machine.as_slice(),
+            65536,
+            0,
+            0,
+        )?;
+        assert_eq!(rt; served.sink.bytes(), written);
+        assert_eq!(rt; served.line.bytes(), line.as_bytes());
+        assert_eq!(rt; status(&served), want_status);
     }
     Ok(())
 }
@@ -443,45 +692,26 @@ fn operations_traps_and_asks_are_reported(rt: HostRuntime) -> Result<(), Fail> {
             rt.alloc(),
             "sched p -1 rr 10000",
             program.as_bytes(),
+            b"",
             5000,
             0,
             0,
         )?;
         assert_eq!(rt; served.sink.bytes(), want.as_bytes(), "{program}");
-        let PlainEnd::Sched { status, .. } = served.result? else {
-            assert!(rt; false, "{program}");
-            continue;
-        };
-        assert_eq!(rt; status, want_status, "{program}");
+        assert_eq!(rt; status(&served), want_status, "{program}");
     }
-    Ok(())
-}
-
-/// A program of as many bytes as there may be runs.
-#[test]
-fn the_longest_program_is_accepted(rt: HostRuntime) -> Result<(), Fail> {
-    let longest = padded(rt.alloc(), 1_048_576)?;
-    let served = serve(
-        rt.alloc(),
-        "sched p -1 rr 1000",
-        longest.as_slice(),
-        65536,
-        0,
-        0,
-    )?;
-    assert_eq!(rt; served.sink.bytes(), RAISED);
-    assert_eq!(rt; served.result.err(), None);
     Ok(())
 }
 
 /// One core makes 64 increments.
 #[test]
 fn a_generated_program_runs(rt: HostRuntime) -> Result<(), Fail> {
-    let program = serve(rt.alloc(), "gen 0", b"", 5000, 0, 0)?;
+    let program = serve(rt.alloc(), "gen 0", b"", b"", 5000, 0, 0)?;
     let served = serve(
         rt.alloc(),
         "sched p -1 rr 1000000",
         program.sink.bytes(),
+        b"",
         5000,
         0,
         0,
@@ -490,6 +720,6 @@ fn a_generated_program_runs(rt: HostRuntime) -> Result<(), Fail> {
         served.sink.bytes(),
         b"core 0 halt\nsum 65536 4096 64\nstatus 0\n".as_slice()
     );
-    assert_eq!(rt; served.result.err(), None);
+    assert_eq!(rt; status(&served), 0);
     Ok(())
 }

@@ -1,12 +1,11 @@
 //! What the words of a command ask for.
 
-ghost use Rattle.std.specs.Prelude.{◌≡◌, ◌+◌, ◌<◌, ◌≤◌, [], Some, None, length, position, get_or, IfSome, option_map, if◌then◌else◌, true};
-ghost use Rattle.std.specs.Str.{bytes_eq};
+ghost use Rattle.std.specs.Prelude.{◌≡◌, ◌+◌, ◌<◌, [], Some, None, length, get_or, IfSome, option_map, if◌then◌else◌, true};
 ghost use Rattle.pei_types.specs.declared.machines.MachineSpec.{MachineSpec};
 ghost use Rattle.sched_run.specs.Choosing.{HasActorsOf};
-ghost use Rattle.pei_cli.specs.Commands.{asm_words, built_in_words, decimal_below, schedule_word, sched_words, gen_words};
+ghost use Rattle.pei_cli.specs.Commands.{asm_words, decimal_below, machine_word, schedule_word, sched_words, gen_words};
 ghost use Rattle.pei_cli.specs.Jobs.{Generates, Prints, asked_by, policy_of_word};
-ghost use Rattle.pei_cli.specs.Asking.{Asks, runs_as};
+ghost use Rattle.pei_cli.specs.Asking.{Asks, HasBuiltInCores, machine_as, runs_as};
 
 use pei_io::Text;
 use sched_run::Policy;
@@ -17,7 +16,7 @@ const MOST_TURNS: u64 = 1_000_000_000;
 /// What words can ask for.
 #[derive(Drop)]
 pub(crate) enum Asked {
-    /// A scheduled run. Its program is the second word.
+    /// A scheduled run. Its program is the second word, and its machine the third.
     Run(Run),
     /// The canonical text of a program, which is the second word.
     Print,
@@ -25,10 +24,19 @@ pub(crate) enum Asked {
     Generate(u64),
 }
 
-/// A scheduled run with its report, on a built-in machine.
+/// A machine that a word names.
+#[derive(Clone, Copy)]
+pub(crate) enum Machine {
+    /// The built-in machine of 1 to 8 cores.
+    BuiltIn(u8),
+    /// That of a file, whose name the word is.
+    File,
+}
+
+/// A scheduled run with its report.
 #[derive(Drop)]
 pub(crate) struct Run {
-    pub cores: u8,
+    pub machine: Machine,
     pub policy: Policy,
     pub turns: u64,
 }
@@ -57,19 +65,19 @@ fn names_program(words: &[Text]) -> bool
 
 /// The run that the words behind `sched` ask for.
 fn run_words(words: &[Text]) -> Option<Run>
-    ensures some { IfSome result (λ j. asked_by (sched_words words.now) ≡ Some (runs_as (get_or words.now 0 []) j)) }
-    ensures within { IfSome result (λ j. (0 < length words.now) × (1 ≤ j.cores) × (j.cores ≤ 8)) }
+    ensures some { IfSome result (λ j. asked_by (sched_words words.now) ≡ Some (runs_as (get_or words.now 0 []) (get_or words.now 1 []) j)) }
+    ensures within { IfSome result (λ j. 1 < length words.now) }
+    ensures cores { IfSome result (λ j. HasBuiltInCores j.machine) }
     ensures actors { IfSome result (λ j. (m : MachineSpec) → HasActorsOf m j.policy) }
     ensures none { result ≡ None → asked_by (sched_words words.now) ≡ None }
 {
     let [_, machine, seed, turns] = words else {
         return None;
     };
-    let cores = built_in_cores(machine.as_str())?;
     let turns = decimal_up_to(turns.as_str(), MOST_TURNS)?;
     let policy = policy(seed.as_str())?;
     Some(Run {
-        cores,
+        machine: machine_named(machine.as_str()),
         policy,
         turns,
     })
@@ -85,20 +93,21 @@ fn generate_words(words: &[Text]) -> Option<u64>
     decimal_up_to(number.as_str(), u64::MAX)
 }
 
-/// The number of cores of the built-in machine that a word names.
-fn built_in_cores(word: &str) -> Option<u8>
-    ensures { result ≡ option_map (λ i. i + 1) (position (bytes_eq word.now) built_in_words) }
+/// The machine that a word names.
+fn machine_named(word: &str) -> Machine
+    ensures named { machine_word word.now ≡ machine_as word.now result }
+    ensures cores { HasBuiltInCores result }
 {
     match word {
-        "-1" => Some(1),
-        "-2" => Some(2),
-        "-3" => Some(3),
-        "-4" => Some(4),
-        "-5" => Some(5),
-        "-6" => Some(6),
-        "-7" => Some(7),
-        "-8" => Some(8),
-        _ => None,
+        "-1" => Machine::BuiltIn(1),
+        "-2" => Machine::BuiltIn(2),
+        "-3" => Machine::BuiltIn(3),
+        "-4" => Machine::BuiltIn(4),
+        "-5" => Machine::BuiltIn(5),
+        "-6" => Machine::BuiltIn(6),
+        "-7" => Machine::BuiltIn(7),
+        "-8" => Machine::BuiltIn(8),
+        _ => Machine::File,
     }
 }
 

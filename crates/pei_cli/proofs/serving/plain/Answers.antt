@@ -1,0 +1,21 @@
+use Rattle.std.proofs.Common.{rules, ◌≡◌, ℕ, List, [], get_or, Option, Some, IfSome, subst, sym}
+use Rattle.pei_cli.specs.Asking.{runs_as}
+use Rattle.pei_cli.specs.Jobs.{Asked}
+use Rattle.pei_cli.specs.Serving.{Serves}
+use Rattle.pei_cli.specs.Uses.{file_use, sink_use}
+use Rattle.pei_cli.specs.declared.words.Run.{Run}
+use Rattle.pei_cli.proofs.serving.plain.Goals as goal
+
+-- a fact of the run that is asked for, by the names of its files
+of_run : (asked : Option Asked) (words : List (List ℕ)) (program machine : List ℕ) (run : Run) (P : Asked → Type 0) → asked ≡ Some (runs_as (get_or words 1 []) (get_or words 2 []) run) → get_or words 1 [] ≡ program → get_or words 2 [] ≡ machine → P (runs_as program machine run) → IfSome asked P
+of_run asked words program machine run P same first second fact =
+    subst (λ (o : Option Asked). IfSome o P) (sym same)
+    (subst (λ (name : List ℕ). P (runs_as name (get_or words 2 []) run)) (sym first)
+    (subst (λ (name : List ℕ). P (runs_as program name run)) (sym second) fact))
+
+pub returns-in-Some-Run-clause-serves : goal.returns-in-Some-Run-clause-serves
+returns-in-Some-Run-clause-serves g c =
+    let asks = rw c.in-Some-Run.field-0-is at c.in-Some-Run.ensures
+    in of_run _ c.args.words.now c.as_str.result.now c.as_str-in-Some-Run.result.now c.in-Some-Run.run'
+    (λ a. Serves a (file_use g.F.Files.held g.F.Files.name g.F.Files.taken g.F.Files.faults c.args.files.now c.run_file.new.files) (sink_use g.K.Sink.written g.K.Sink.faults c.args.sink.now c.run_file.new.sink) c.run_file.result)
+    asks.0 (search rules) (search rules) c.run_file.ensures.serves

@@ -1,0 +1,98 @@
+//! Reading a command's files.
+
+ghost use Rattle.std.specs.Prelude.{◌≡◌, ◌≤◌, None, IfOk, IfErr};
+ghost use Rattle.pei_asm.specs.Canonical.{IsPrintable};
+ghost use Rattle.pei_io.specs.Outside.{LeavesOthers};
+ghost use Rattle.pei_cli.specs.Asking.{HasBuiltInCores, machine_as};
+ghost use Rattle.pei_cli.specs.Commands.{FromFile, file_of_machine};
+ghost use Rattle.pei_cli.specs.Serving.{FailsToRead, IsRead, ReadsMachine, ReadsProgram};
+ghost use Rattle.pei_cli.specs.Uses.{file_use};
+
+use crate::faults::{Fault, machine_fault, text_fault};
+use crate::words::Machine;
+use machine_file::{built_in, read_machine};
+use pei_asm::assemble;
+use pei_io::{Bytes, Files, ReadEnd, Which, read_limited};
+use pei_types::{MachineSpec, Program};
+use std::alloc::Global;
+
+/// The most bytes of a file.
+const MOST_BYTES: u32 = 1_048_576;
+
+/// Reads the program of a file of this name.
+pub(crate) fn read_program<F: Files>(
+    alloc: Global,
+    files: &mut F,
+    name: &str,
+) -> Result<Program, Fault>
+    requires { F.name files.old Which.Program ≡ None }
+    ensures reads { ReadsProgram name.now (file_use F.held F.name F.taken F.faults files.old files.new Which.Program) result }
+    ensures printable { IfOk result IsPrintable }
+    ensures rising { F.faults files.old Which.Program ≤ F.faults files.new Which.Program }
+    ensures others { LeavesOthers F.held F.left F.name F.taken F.faults Which.Program files.old files.new }
+{
+    let text = read_file(alloc, files, Which::Program, name)?;
+    match assemble(alloc, text.as_slice()) {
+        Ok(program) => Ok(program),
+        Err(fault) => Err(text_fault(fault)),
+    }
+}
+
+/// The machine of a run: a built-in one, or that of a file of this name.
+pub(crate) fn find_machine<F: Files>(
+    alloc: Global,
+    files: &mut F,
+    machine: Machine,
+    name: &str,
+) -> Result<MachineSpec, Fault>
+    requires unopened { F.name files.old Which.Machine ≡ None }
+    requires cores { HasBuiltInCores machine }
+    ensures reads { ReadsMachine (machine_as name.now machine) (file_use F.held F.name F.taken F.faults files.old files.new Which.Machine) result }
+    ensures rising { F.faults files.old Which.Machine ≤ F.faults files.new Which.Machine }
+    ensures others { LeavesOthers F.held F.left F.name F.taken F.faults Which.Machine files.old files.new }
+    ensures unread { file_of_machine (machine_as name.now machine) ≡ None → files.new ≡ files.old }
+{
+    match machine {
+        Machine::BuiltIn(cores) => Ok(built_in(cores)),
+        Machine::File => read_machine_file(alloc, files, name),
+    }
+}
+
+/// Reads the machine of a file of this name.
+fn read_machine_file<F: Files>(
+    alloc: Global,
+    files: &mut F,
+    name: &str,
+) -> Result<MachineSpec, Fault>
+    requires { F.name files.old Which.Machine ≡ None }
+    ensures reads { ReadsMachine (FromFile name.now) (file_use F.held F.name F.taken F.faults files.old files.new Which.Machine) result }
+    ensures rising { F.faults files.old Which.Machine ≤ F.faults files.new Which.Machine }
+    ensures others { LeavesOthers F.held F.left F.name F.taken F.faults Which.Machine files.old files.new }
+{
+    let bytes = read_file(alloc, files, Which::Machine, name)?;
+    match read_machine(alloc, bytes.as_slice()) {
+        Ok(machine) => Ok(machine),
+        Err(fault) => Err(machine_fault(fault)),
+    }
+}
+
+/// Reads a file of this name that was not opened before.
+fn read_file<F: Files>(
+    alloc: Global,
+    files: &mut F,
+    which: Which,
+    name: &str,
+) -> Result<Bytes, Fault>
+    requires { F.name files.old which ≡ None }
+    ensures read { IfOk result (λ bytes. IsRead (file_use F.held F.name F.taken F.faults files.old files.new which) name.now bytes) }
+    ensures failed { IfErr result (λ f. FailsToRead which name.now (file_use F.held F.name F.taken F.faults files.old files.new which) f) }
+    ensures rising { F.faults files.old which ≤ F.faults files.new which }
+    ensures others { LeavesOthers F.held F.left F.name F.taken F.faults which files.old files.new }
+{
+    match read_limited(alloc, files, which, name, MOST_BYTES) {
+        Ok(bytes) => Ok(bytes),
+        Err(ReadEnd::Failed) => Err(Fault::ReadFault { which }),
+        Err(ReadEnd::TooLong) => Err(Fault::InputTooLong { which }),
+        Err(ReadEnd::OutOfMemory) => Err(Fault::OutOfMemory),
+    }
+}
