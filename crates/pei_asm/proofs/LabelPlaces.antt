@@ -8,7 +8,7 @@ use Rattle.std.specs.Prelude.{is_some}
 use Rattle.std.specs.List.{cons_option, list_any}
 use Rattle.std.specs.Option.{option_map_or, option_or}
 use Rattle.std.specs.Str.{bytes_eq}
-use Rattle.pei_asm.specs.Statements.{Line}
+use Rattle.asm_statements.specs.Statements.{Line}
 use Rattle.pei_asm.specs.Spelling.{are_distinct, are_new, defines, instruction_count, labels_defined, place_among}
 use Rattle.pei_asm.specs.Stored.{instruction_on}
 use Rattle.pei_asm.specs.Canonical.{label}

@@ -1,5 +1,4 @@
 pub mod TestFacts
-pub mod Steps
 pub mod LineVerdicts
 pub mod TextVerdicts
 pub mod Printables
@@ -12,8 +11,6 @@ pub mod CanonicalDirectives
 pub mod Writing
 pub mod Headers
 pub mod InstrParts
-pub mod Digits
-pub mod Separated
 pub mod Lookups
 pub mod Placing
 pub mod LineTrials

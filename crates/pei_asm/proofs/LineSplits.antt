@@ -6,8 +6,8 @@ use Rattle.std.specs.Option.{option_or, option_to_list}
 use Rattle.std.specs.Str.{byte}
 use Rattle.std.proofs.lemmas.List.Splits.{slice_split_first}
 use Rattle.pei_asm.specs.declared.faults.AsmFault.{AsmFault}
-use Rattle.pei_asm.specs.Tokens.{lines_of}
-use Rattle.pei_asm.specs.Statements.{Line, meaning_of}
+use Rattle.pei_asm.specs.Spelling.{lines_of}
+use Rattle.asm_statements.specs.Statements.{Line, meaning_of}
 use Rattle.pei_asm.specs.Faults.{first_line_fault, line_fault}
 
 no_line_feed : (p : ℕ → Bool) (xs : List ℕ) → prefix_len (λ x. not (p x)) xs ≡ length xs → slice_split p xs ≡ xs ∷ []

@@ -6,11 +6,11 @@ use Rattle.std.specs.Str.{is_utf8}
 use Rattle.std.proofs.lemmas.Bool.{and_parts, not-true}
 use Rattle.pei_asm.specs.declared.faults.AsmFault.{AsmFault}
 use Rattle.pei_asm.specs.declared.faults.AsmKind.TheVariants as kind
-use Rattle.pei_asm.specs.Tokens.{Token, name, number, comma, colon, star, stray, Placed, tokens_of}
-use Rattle.pei_asm.specs.Mnemonics.{rows_named, is_number_in_range}
-use Rattle.pei_asm.specs.Statements.{Statement, Line, body_of, fits_row, is_in_range, label_of, line_from, line_of, line_with, meaning_of, separated, statement_in, statement_named, statement_with}
-use Rattle.pei_asm.specs.Spelling.{core_in, item_anywhere}
-use Rattle.pei_asm.specs.Faults.{Trial, column_if, column_where, fault_of_trials, first_column, has_entry, is_defined_before, is_one_too_many, line_fault, register_out_of_range}
+use Rattle.asm_statements.specs.Tokens.{Token, name, number, comma, colon, star, stray, Placed, tokens_of}
+use Rattle.asm_statements.specs.Mnemonics.{rows_named, is_number_in_range, core_in}
+use Rattle.asm_statements.specs.Statements.{Statement, Line, body_of, fits_row, is_in_range, label_of, line_from, line_of, line_with, meaning_of, separated, statement_in, statement_named, statement_with, item_anywhere}
+use Rattle.pei_asm.specs.Faults.{Trial, fault_of_trials, has_entry, is_defined_before, is_one_too_many, line_fault}
+use Rattle.asm_statements.specs.LineFaults.{column_if, column_where, first_column, register_out_of_range}
 use Rattle.pei_asm.specs.Trials.{trials_of_front, trials_of_statement}
 use Rattle.pei_asm.proofs.LineVerdicts.{follows, may_stand, passes, line_verdict}
 use Rattle.pei_asm.proofs.TestFacts.{and_then_some, map_some}

@@ -7,11 +7,11 @@ use Rattle.std.specs.Option.{option_and_then}
 use Rattle.std.specs.Str.{is_utf8, chars}
 use Rattle.std.specs.Str.Lossy.{utf8_valid_len, valid_len_up_to}
 use Rattle.std.proofs.lemmas.Bool.{and_parts, lt-ltb, le-ltb, or_parts, or_from}
-use Rattle.pei_asm.specs.Tokens.{Token, name, number, comma, colon, star, stray, Placed, tokens_of}
-use Rattle.pei_asm.specs.Mnemonics.{Shape, register_below, any_number, amount, one_core, all_cores, place, suits, fits, fits_more, is_number_in_range, is_register_in_range, rows_named}
-use Rattle.pei_asm.specs.Statements.{Statement, Line, label_in, label_of, tokens_alone, body_of, behind_label, is_comma, separated, fits_row, statement_with, statement_named, is_in_range, line_with, line_from, line_of, meaning_of}
-use Rattle.pei_asm.specs.Spelling.{core_in, item_anywhere}
-use Rattle.pei_asm.specs.Faults.{Trial, fault_of_trials, trials, line_fault, column_if, column_where, is_stray, bad_char, is_defined_before, double_label, is_known, unknown_name, wrong_operands, number_too_large, register_out_of_range, register_range, is_one_too_many, too_many_instructions, has_entry, double_entry, not_utf8}
+use Rattle.asm_statements.specs.Tokens.{Token, name, number, comma, colon, star, stray, Placed, tokens_of}
+use Rattle.asm_statements.specs.Mnemonics.{Shape, register_below, any_number, amount, one_core, all_cores, place, suits, fits, fits_more, is_number_in_range, is_register_in_range, rows_named, core_in}
+use Rattle.asm_statements.specs.Statements.{Statement, Line, label_in, label_of, tokens_alone, body_of, behind_label, is_comma, separated, fits_row, statement_with, statement_named, is_in_range, line_with, line_from, line_of, meaning_of, item_anywhere}
+use Rattle.pei_asm.specs.Faults.{Trial, fault_of_trials, trials, line_fault, is_defined_before, double_label, is_one_too_many, too_many_instructions, has_entry, double_entry}
+use Rattle.asm_statements.specs.LineFaults.{column_if, column_where, is_stray, bad_char, is_known, unknown_name, wrong_operands, number_too_large, register_out_of_range, register_range, not_utf8}
 use Rattle.pei_asm.proofs.TestFacts.{none_of_map, none_found, none_fails, any_of_map, drop_two_of_map, and_then_some, map_some}
 use Rattle.pei_types.proofs.Lists.{found_passes}
 

@@ -7,9 +7,9 @@ use Rattle.std.proofs.lemmas.Bool.{and_parts, ltb-true, ltb-false}
 use Rattle.std.proofs.Math.Seq.{drop-nil}
 use Rattle.pei_asm.proofs.Printables.{label_value}
 use Rattle.std.proofs.lemmas.List.Quantifiers.{position-Some}
-use Rattle.pei_asm.specs.Tokens.{Token, name, number, comma, colon, star, stray, Placed}
-use Rattle.pei_asm.specs.Mnemonics.{Shape, register_below, any_number, amount, one_core, all_cores, place, fits, fits_more, is_below_zero, is_register_in_range, register_names, register_of, suits, value_of}
-use Rattle.pei_asm.specs.Statements.{tokens_alone}
+use Rattle.asm_statements.specs.Tokens.{Token, name, number, comma, colon, star, stray, Placed}
+use Rattle.asm_statements.specs.Mnemonics.{Shape, register_below, any_number, amount, one_core, all_cores, place, fits, fits_more, is_below_zero, is_register_in_range, register_names, register_of, suits, value_of}
+use Rattle.asm_statements.specs.Statements.{tokens_alone}
 use Rattle.pei_asm.specs.Building.{HasValuesFrom, IsValueOf}
 
 register_below_sixteen : (text : List ℕ) (other : ℕ) → is_some (register_of text) ≡ true → unwrap_or (register_of text) other < 16

@@ -8,15 +8,16 @@ use Rattle.std.proofs.lemmas.List.Elements.{All-head, All-tail}
 use Rattle.pei_types.specs.declared.instructions.Instr.{Instr}
 use Rattle.pei_types.specs.Program.{Listing}
 use Rattle.pei_asm.specs.declared.lines.SourceLine.{SourceLine}
-use Rattle.pei_asm.specs.declared.operands.SourceStatement.{SourceStatement}
-use Rattle.pei_asm.specs.declared.mnemonics.Mnemonic.{Mnemonic}
-use Rattle.pei_asm.specs.declared.mnemonics.Mnemonic.TheVariants as known
-use Rattle.pei_asm.specs.Mnemonics.{Item, row_of, value_of}
-use Rattle.pei_asm.specs.Statements.{item_of, tokens_alone}
-use Rattle.pei_asm.specs.Spelling.{instruction_count, instruction_in, item_anywhere, items_anywhere}
+use Rattle.asm_statements.specs.declared.operands.SourceStatement.{SourceStatement}
+use Rattle.asm_statements.specs.declared.mnemonics.Mnemonic.{Mnemonic}
+use Rattle.asm_statements.specs.declared.mnemonics.Mnemonic.TheVariants as known
+use Rattle.asm_statements.specs.Mnemonics.{Item, row_of, value_of, instruction_in}
+use Rattle.asm_statements.specs.Statements.{item_of, tokens_alone, item_anywhere}
+use Rattle.pei_asm.specs.Spelling.{instruction_count, items_anywhere}
 use Rattle.pei_asm.specs.Building.{HasValues, with_item}
 use Rattle.pei_asm.specs.Places.{item_on}
-use Rattle.pei_asm.specs.Sources.{HasWellFormed, IsWellFormed, line_of, statement_of}
+use Rattle.pei_asm.specs.Sources.{HasWellFormed, IsWellFormed, line_of}
+use Rattle.asm_statements.specs.Sources.{statement_of}
 use Rattle.pei_asm.proofs.ItemByItem.{HasCore, instructions_on}
 use Rattle.pei_asm.proofs.OperandValues.{values_from}
 

@@ -3,8 +3,8 @@ use Rattle.std.proofs.Common.{◌≡◌, ℕ, ◌+◌, List, [], ◌∷◌, Bool
 use Rattle.std.specs.Prelude.{find, filter, option_map}
 use Rattle.std.specs.Option.{option_or}
 use Rattle.pei_asm.specs.declared.faults.AsmKind.TheVariants as kind
-use Rattle.pei_asm.specs.Tokens.{Placed}
-use Rattle.pei_asm.specs.Statements.{Line}
+use Rattle.asm_statements.specs.Tokens.{Placed}
+use Rattle.asm_statements.specs.Statements.{Line}
 use Rattle.pei_asm.specs.Spelling.{is_defined, labels_used, names_label}
 use Rattle.pei_asm.specs.Faults.{unknown_label}
 use Rattle.pei_asm.specs.Unknown.{is_undefined}

@@ -8,9 +8,9 @@ use Rattle.std.specs.Str.{byte, is_utf8}
 use Rattle.pei_types.specs.declared.instructions.Instr.{Instr}
 use Rattle.pei_types.specs.declared.instructions.Instr.TheVariants as instr
 use Rattle.pei_types.specs.Program.{HasRegisters}
-use Rattle.pei_asm.specs.Tokens.{Token, name, Placed, tokens_from, tokens_of}
-use Rattle.pei_asm.specs.Mnemonics.{Row, is_label, rows_named}
-use Rattle.pei_asm.specs.Statements.{Statement, Line, behind_label, fits_row, is_in_range, label_of, line_from, line_of, line_with, meaning_of, statement_in, statement_named, statement_with, tokens_alone}
+use Rattle.asm_statements.specs.Tokens.{Token, name, Placed, tokens_from, tokens_of}
+use Rattle.asm_statements.specs.Mnemonics.{Row, is_label, rows_named}
+use Rattle.asm_statements.specs.Statements.{Statement, Line, behind_label, fits_row, is_in_range, label_of, line_from, line_of, line_with, meaning_of, statement_in, statement_named, statement_with, tokens_alone}
 use Rattle.pei_asm.specs.Spelling.{is_label_token, label_text, names_label}
 use Rattle.pei_asm.specs.Canonical.{instr_text, label, phrase, register, target_of}
 use Rattle.pei_asm.proofs.Phrases.{Reads, label_reads, phrase_reads, register_of-register, separated_commas, with_commas}

@@ -1,7 +1,7 @@
 -- A program, item by item.
 use Rattle.std.specs.Prelude.{ℕ, ◌+◌, ◌<◌, ◌≤◌, ⊤, true, if◌then◌else◌, List, [], ◌∷◌, ◌++◌, length, Option, Some, None, is_some, slice_index, slice_index_or, slice_set}
 use Rattle.pei_types.specs.Program.{Listing}
-use Rattle.pei_asm.specs.Mnemonics.{Shape, register_below, one_core, place, Item, instruction, entry, words, shown, statistics}
+use Rattle.asm_statements.specs.Mnemonics.{Shape, register_below, one_core, place, Item, instruction, entry, words, shown, statistics}
 
 -- the entries of single cores, with one more where the core has none
 abbrev pub with_own_entry : List (Option ℕ) → ℕ → ℕ → List (Option ℕ)

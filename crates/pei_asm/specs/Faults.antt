@@ -1,39 +1,18 @@
 -- The first fault of a text.
-use Rattle.std.specs.Prelude.{ℕ, ◌+◌, Bool, true, false, not, ◌&&◌, nat_lt, if◌then◌else◌, List, [], ◌∷◌, ◌++◌, length, find, zip, Option, Some, None, is_none, is_some, option_map, option_and_then}
+use Rattle.std.specs.Prelude.{ℕ, ◌+◌, Bool, false, not, ◌&&◌, nat_lt, List, [], ◌∷◌, ◌++◌, find, Option, Some, None, is_some, option_map, option_and_then}
 use Rattle.std.specs.List.{list_any}
 use Rattle.std.specs.Option.{option_or, option_to_list}
-use Rattle.std.specs.Str.Lossy.{utf8_valid_len}
 use Rattle.std.specs.Str.{bytes_eq}
 use Rattle.pei_asm.specs.declared.faults.AsmFault.{AsmFault}
 use Rattle.pei_asm.specs.declared.faults.AsmKind.{AsmKind}
 use Rattle.pei_asm.specs.declared.faults.AsmKind.TheVariants as kind
-use Rattle.pei_asm.specs.Tokens.{Token, name, stray, Placed, lines_of, tokens_of}
-use Rattle.pei_asm.specs.Mnemonics.{is_number_in_range, is_register_in_range, rows_named}
-use Rattle.pei_asm.specs.Statements.{Statement, Line, label_of, body_of, statement_in, meaning_of}
-use Rattle.pei_asm.specs.Spelling.{core_in, instruction_in, item_anywhere, instruction_count, same_core, labels_defined, cores_given, labels_used, is_defined, lines_read}
+use Rattle.asm_statements.specs.Tokens.{Placed, tokens_of}
+use Rattle.pei_asm.specs.Spelling.{lines_of, instruction_count, same_core, labels_defined, cores_given, labels_used, is_defined, lines_read}
+use Rattle.asm_statements.specs.Mnemonics.{core_in, instruction_in}
+use Rattle.asm_statements.specs.Statements.{Statement, Line, label_of, body_of, statement_in, meaning_of, item_anywhere}
+use Rattle.asm_statements.specs.LineFaults.{column_if, first_column, not_utf8, bad_char, unknown_name, wrong_operands, number_too_large, register_range}
 
--- the column of the first token that passes a test
-abbrev pub column_where : (Token → Bool) → List Placed → Option ℕ
-column_where test placed = option_map (λ t. t.column) (find (λ t. test t.token) placed)
-
--- the column of the first token
-abbrev pub first_column : List Placed → Option ℕ
-first_column placed = column_where (λ t. true) placed
-
-abbrev pub column_if : Bool → Option ℕ → Option ℕ
-column_if wrong column = if wrong then column else None
-
--- ---- each kind of fault in a line: the column of the first place where it stands
-
-abbrev pub not_utf8 : List ℕ → Option ℕ
-not_utf8 line = column_if (nat_lt (utf8_valid_len line) (length line)) (Some (utf8_valid_len line + 1))
-
-abbrev pub is_stray : Token → Bool
-is_stray stray = true
-is_stray _ = false
-
-abbrev pub bad_char : List Placed → Option ℕ
-bad_char placed = column_where is_stray placed
+-- ---- the kinds of faults in a line that its earlier ones decide: the column of the first place where each stands
 
 abbrev pub is_defined_before : List Line → Option (List ℕ) → Bool
 is_defined_before earlier None = false
@@ -41,31 +20,6 @@ is_defined_before earlier (Some label) = list_any (bytes_eq label) (labels_defin
 
 abbrev pub double_label : List Line → List Placed → Option ℕ
 double_label earlier placed = column_if (is_defined_before earlier (label_of placed)) (first_column placed)
-
--- the name is in the table
-abbrev pub is_known : Token → Bool
-is_known (name text) = nat_lt 0 (length (rows_named text))
-is_known _ = false
-
-abbrev pub unknown_name : List Placed → Option ℕ
-unknown_name [] = None
-unknown_name (t ∷ rest) = column_if (not (is_known t.token)) (Some t.column)
-
-abbrev pub wrong_operands : List Placed → Option ℕ
-wrong_operands body = column_if (is_none (statement_in body)) (first_column body)
-
--- The rest is about the statement of a line, where its operands fit.
-
-abbrev pub number_too_large : List Placed → Option ℕ
-number_too_large body = option_and_then (λ s. column_where (λ t. not (is_number_in_range t)) s.operands) (statement_in body)
-
--- the first operand that is a register out of range
-abbrev pub register_out_of_range : Statement → Option ℕ
-register_out_of_range s =
-    option_map (λ pair. pair.1.column) (find (λ pair. not (is_register_in_range pair.0 pair.1.token)) (zip s.row.shapes s.operands))
-
-abbrev pub register_range : List Placed → Option ℕ
-register_range body = option_and_then register_out_of_range (statement_in body)
 
 -- the statement is an instruction, and there are as many as there may be
 abbrev pub is_one_too_many : List Line → Statement → Bool

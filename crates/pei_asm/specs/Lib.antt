@@ -1,12 +1,7 @@
-pub mod Tokens
-pub mod Mnemonics
-pub mod Statements
 pub mod Spelling
 pub mod Faults
 pub mod Canonical
 pub mod Laws
-pub mod Lexemes
-pub mod Rows
 pub mod Sources
 pub mod Stored
 pub mod Trials

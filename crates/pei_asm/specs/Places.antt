@@ -2,8 +2,8 @@
 use Rattle.std.specs.Prelude.{ℕ, List, Option, unwrap_or, option_map}
 use Rattle.std.specs.Option.{option_map_or}
 use Rattle.pei_types.specs.Program.{Listing}
-use Rattle.pei_asm.specs.Mnemonics.{Item}
-use Rattle.pei_asm.specs.Statements.{Line, item_of}
+use Rattle.asm_statements.specs.Mnemonics.{Item}
+use Rattle.asm_statements.specs.Statements.{Line, item_of}
 use Rattle.pei_asm.specs.Spelling.{place_among}
 use Rattle.pei_asm.specs.Building.{with_item}
 

@@ -1,15 +1,12 @@
--- What the code's statements and lines stand for.
-use Rattle.std.specs.Prelude.{◌≡◌, ℕ, true, List, map, Option, option_map, IfSome}
+-- What the code's lines stand for.
+use Rattle.std.specs.Prelude.{◌≡◌, ℕ, true, List, Option, option_map, IfSome}
 use Rattle.std.specs.Map.{lookup}
 use Rattle.std.specs.Str.{bytes_eq}
-use Rattle.pei_asm.specs.declared.operands.SourceStatement.{SourceStatement}
+use Rattle.asm_statements.specs.declared.operands.SourceStatement.{SourceStatement}
 use Rattle.pei_asm.specs.declared.lines.SourceLine.{SourceLine}
-use Rattle.pei_asm.specs.Lexemes.{placed_of}
-use Rattle.pei_asm.specs.Mnemonics.{row_of}
-use Rattle.pei_asm.specs.Statements.{Statement, Line, fits_row, is_in_range}
-
-abbrev pub statement_of : SourceStatement → Statement
-statement_of s = record { row = row_of s.mnemonic; operands = map placed_of s.operands.items }
+use Rattle.asm_statements.specs.Mnemonics.{row_of}
+use Rattle.asm_statements.specs.Statements.{Line, fits_row, is_in_range}
+use Rattle.asm_statements.specs.Sources.{statement_of}
 
 abbrev pub line_of : SourceLine → Line
 line_of l = record { label = option_map (λ text. text.now) l.label; statement = option_map statement_of l.statement }

@@ -1,11 +1,11 @@
 -- The trials of a line in two parts: those of its characters and names, and those of its statement.
 use Rattle.std.specs.Prelude.{ℕ, List, [], ◌∷◌, Option, not}
 use Rattle.pei_asm.specs.declared.faults.AsmKind.TheVariants as kind
-use Rattle.pei_asm.specs.Tokens.{Placed}
-use Rattle.pei_asm.specs.Mnemonics.{is_number_in_range}
-use Rattle.pei_asm.specs.Statements.{Line, Statement}
-use Rattle.pei_asm.specs.Spelling.{core_in, item_anywhere}
-use Rattle.pei_asm.specs.Faults.{Trial, bad_char, column_if, column_where, double_label, has_entry, is_one_too_many, not_utf8, register_out_of_range, unknown_name}
+use Rattle.asm_statements.specs.Tokens.{Placed}
+use Rattle.asm_statements.specs.Mnemonics.{is_number_in_range, core_in}
+use Rattle.asm_statements.specs.Statements.{Line, Statement, item_anywhere}
+use Rattle.pei_asm.specs.Faults.{Trial, double_label, has_entry, is_one_too_many}
+use Rattle.asm_statements.specs.LineFaults.{bad_char, column_if, column_where, not_utf8, register_out_of_range, unknown_name}
 
 abbrev pub trials_of_front : List Line → List ℕ → List Placed → List Placed → List Trial
 trials_of_front earlier line placed body =

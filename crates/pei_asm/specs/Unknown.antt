@@ -1,7 +1,7 @@
 -- Labels that are used and not defined.
 use Rattle.std.specs.Prelude.{Bool, ◌&&◌, not, List}
-use Rattle.pei_asm.specs.Tokens.{Placed}
-use Rattle.pei_asm.specs.Statements.{Line}
+use Rattle.asm_statements.specs.Tokens.{Placed}
+use Rattle.asm_statements.specs.Statements.{Line}
 use Rattle.pei_asm.specs.Spelling.{is_defined, names_label}
 
 -- an operand is a label that no line defines

@@ -1,21 +1,19 @@
 //! The program of some lines.
 
 ghost use Rattle.std.specs.Prelude.{◌≡◌, ◌<◌, ◌≤◌, length, map, is_some, true, IfOk, IfSome, OnOk};
-ghost use Rattle.pei_asm.specs.Lexemes.{placed_of, token_of};
-ghost use Rattle.pei_asm.specs.Mnemonics.{is_number_in_range, value_of};
+ghost use Rattle.asm_statements.specs.Lexemes.{placed_of, token_of};
+ghost use Rattle.asm_statements.specs.Mnemonics.{is_number_in_range, value_of, instruction_in};
 ghost use Rattle.pei_asm.specs.Places.{item_on, place_or_start, with_line};
 ghost use Rattle.pei_asm.specs.Building.{with_item};
-ghost use Rattle.pei_asm.specs.Sources.{HasWellFormed, IsWellFormed, line_of, statement_of};
-ghost use Rattle.pei_asm.specs.Spelling.{instruction_in, program_of};
-ghost use Rattle.pei_asm.specs.Statements.{item_of, tokens_alone};
+ghost use Rattle.pei_asm.specs.Sources.{HasWellFormed, IsWellFormed, line_of};
+ghost use Rattle.asm_statements.specs.Sources.{statement_of};
+ghost use Rattle.pei_asm.specs.Spelling.{program_of};
+ghost use Rattle.asm_statements.specs.Statements.{item_of, tokens_alone};
 ghost use Rattle.pei_asm.specs.Stored.{IsStored, stored};
 
 use crate::items::add_item;
 use crate::lines::{Lines, SourceLine};
-use crate::numbers::value;
-use crate::operands::SourceStatement;
-use crate::registers::register_of;
-use crate::tokens::Word;
+use asm_statements::{SourceStatement, Word, register_of, value_of_number};
 use pei_types::{OutOfMemory, Program};
 use std::alloc::Global;
 
@@ -30,7 +28,7 @@ fn value_of(lines: &Lines<'_>, word: Word<'_>) -> u64
             Some(register) => u64::from(register),
             None => u64::from(lines.place(name).unwrap_or(0)),
         },
-        Word::Number(bytes) => value(bytes),
+        Word::Number(bytes) => value_of_number(bytes),
         _ => 0,
     }
 }

@@ -2,11 +2,10 @@
 
 ghost use Rattle.std.specs.Prelude.{◌≡◌, ◌<◌, ◌+◌, ◌^◌, length, slice_index, is_some, true, false, IfSome, OnOk};
 ghost use Rattle.pei_types.specs.Program.{HasRegisters};
-ghost use Rattle.pei_asm.specs.Mnemonics.{row_of};
+ghost use Rattle.asm_statements.specs.Mnemonics.{row_of, instruction_in};
 ghost use Rattle.pei_asm.specs.Building.{HasValues, with_common_entry, with_item, with_own_entry};
-ghost use Rattle.pei_asm.specs.Spelling.{instruction_in};
 
-use crate::mnemonics::Mnemonic;
+use asm_statements::Mnemonic;
 use pei_types::{Ask, CoreId, Instr, OutOfMemory, Program};
 
 /// The register that an operand is.

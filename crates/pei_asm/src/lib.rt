@@ -1,9 +1,8 @@
 //! The assembler: the program that an assembly text spells, or the text's first fault.
 //!
 //! A text is UTF-8 and has lines. A line has an optional label with a colon, then optionally an instruction or a
-//! directive, and a comment from `#` or `;` on. `specs/Tokens` says what the tokens of a line are, `specs/Mnemonics` has
-//! the one table of mnemonics and directives with their operands, `specs/Spelling` says what program a text spells, and
-//! `specs/Faults` which fault a text has first.
+//! directive, and a comment from `#` or `;` on. The crate `asm_statements` says what one line means; here `specs/Spelling`
+//! says what program a text spells, and `specs/Faults` which fault a text has first.
 #![tactic(auto)]
 
 mod assembling;
@@ -12,22 +11,16 @@ mod faults;
 mod items;
 mod labels;
 mod lines;
-mod mnemonics;
 mod named;
-mod numbers;
-mod operands;
 mod pieces;
 mod printing;
 mod reading;
-mod registers;
-mod tokens;
-mod trials;
 mod unknown;
 mod verdicts;
 
+pub use asm_statements::Mnemonic;
 pub use assembling::assemble;
 pub use faults::{AsmFault, AsmKind};
-pub use mnemonics::Mnemonic;
 pub use printing::print;
 
 pub mod evidence;

@@ -8,7 +8,7 @@ ghost use Rattle.pei_asm.specs.Stored.{IsStored, entry_on, instruction_on, store
 ghost use Rattle.pei_asm.specs.Spelling.{instruction_count, place_among, same_core};
 
 use crate::labels::Labels;
-use crate::operands::SourceStatement;
+use asm_statements::SourceStatement;
 use pei_types::OutOfMemory;
 use std::alloc::Global;
 

@@ -2,7 +2,7 @@
 
 ghost use Rattle.std.specs.Prelude.{◌≡◌, ◌≢◌, ◌≤◌, length, map, option_map, find, not, IfSome};
 ghost use Rattle.pei_asm.specs.Faults.{unknown_label};
-ghost use Rattle.pei_asm.specs.Lexemes.{placed_of};
+ghost use Rattle.asm_statements.specs.Lexemes.{placed_of};
 ghost use Rattle.pei_asm.specs.Sources.{line_of};
 ghost use Rattle.pei_asm.specs.Spelling.{is_defined, labels_used};
 ghost use Rattle.pei_asm.specs.Stored.{IsStored, stored};
@@ -11,8 +11,7 @@ ghost use Rattle.pei_asm.specs.declared.faults.AsmKind.TheVariants as kind;
 
 use crate::faults::{AsmFault, AsmKind};
 use crate::lines::{Lines, SourceLine};
-use crate::registers::is_label;
-use crate::tokens::{Lexeme, Word};
+use asm_statements::{Lexeme, Word, is_label};
 
 /// Whether an operand is a label that no line defines.
 fn is_undefined(lines: &Lines<'_>, operand: &Lexeme<'_>) -> bool

@@ -1,21 +1,21 @@
 //! The verdict on a line: what it means, or its fault.
 
 ghost use Rattle.std.specs.Prelude.{◌≡◌, ◌≢◌, ◌<◌, None, Some, length, map, IfOk, IfErr, IfSome, false, true};
-ghost use Rattle.pei_asm.specs.Lexemes.{placed_of};
+ghost use Rattle.asm_statements.specs.Lexemes.{placed_of};
 ghost use Rattle.pei_asm.specs.Faults.{double_label, fault_of_trials, has_entry, is_defined_before, is_one_too_many, line_fault};
-ghost use Rattle.pei_asm.specs.Statements.{body_of, fits_row, meaning_of};
-ghost use Rattle.pei_asm.specs.Spelling.{core_in, item_anywhere};
-ghost use Rattle.pei_asm.specs.Sources.{HasWellFormed, line_of, statement_of};
+ghost use Rattle.asm_statements.specs.Statements.{body_of, fits_row, meaning_of, item_anywhere};
+ghost use Rattle.asm_statements.specs.Mnemonics.{core_in};
+ghost use Rattle.pei_asm.specs.Sources.{HasWellFormed, line_of};
+ghost use Rattle.asm_statements.specs.Sources.{statement_of};
 ghost use Rattle.pei_asm.specs.Stored.{IsStored, stored};
 ghost use Rattle.pei_asm.specs.Trials.{trials_of_front, trials_of_statement};
 ghost use Rattle.pei_asm.specs.declared.faults.AsmKind.TheVariants as kind;
 
 use crate::faults::{AsmFault, AsmKind, out_of_memory};
 use crate::lines::{Lines, SourceLine};
-use crate::operands::{SourceStatement, statement_in};
-use crate::tokens::{Lexeme, tokens};
-use crate::trials::{
-    bad_char, body_of, label_of, not_utf8, number_too_large, register_range, unknown_name,
+use asm_statements::{
+    Lexeme, SourceStatement, bad_char, body_of, label_of, not_utf8, number_too_large,
+    register_range, statement_in, tokens_of, unknown_name,
 };
 use std::alloc::Global;
 
@@ -127,7 +127,7 @@ pub(crate) fn read_line<'a>(
     ensures room { IfOk result (λ l. IfSome (line_of l).statement (λ s. is_one_too_many (stored earlier.now) s ≡ false)) }
     ensures well_formed { IfOk result HasWellFormed }
 {
-    let Ok(tokens) = tokens(alloc, line) else {
+    let Ok(tokens) = tokens_of(alloc, line) else {
         return Err(out_of_memory());
     };
     if let Some(fault) = fault_of_front(number, earlier, line, tokens.as_slice()) {

@@ -1,9 +1,9 @@
 use Rattle.std.proofs.Common.{◌≡◌, ◌++◌, drop, map, true}
 use Rattle.std.specs.List.{list_all}
-use Rattle.pei_asm.specs.Lexemes.{placed_of}
-use Rattle.pei_asm.specs.Mnemonics.{is_number_in_range, value_of}
+use Rattle.asm_statements.specs.Lexemes.{placed_of}
+use Rattle.asm_statements.specs.Mnemonics.{is_number_in_range, value_of}
 use Rattle.pei_asm.specs.Places.{place_or_start}
-use Rattle.pei_asm.specs.Statements.{tokens_alone}
+use Rattle.asm_statements.specs.Statements.{tokens_alone}
 use Rattle.pei_asm.specs.Stored.{stored}
 use Rattle.pei_asm.proofs.building.values_of.Given as goal
 

@@ -4,7 +4,7 @@ use Rattle.std.specs.Char.{encode_utf8}
 use Rattle.std.specs.Fmt.{digits}
 use Rattle.std.proofs.Common.{refl, lit≤}
 use Rattle.pei_asm.specs.Faults.{line_fault}
-use Rattle.pei_asm.specs.Mnemonics.{register_names, table}
+use Rattle.asm_statements.specs.Mnemonics.{register_names, table}
 use Rattle.pei_asm.proofs.evidence.canonical_texts_are_right.Goals as goal
 
 pub returns : goal.returns

@@ -3,7 +3,7 @@ use Rattle.std.specs.Str.{is_utf8, chars}
 use Rattle.std.specs.Char.{encode_utf8}
 use Rattle.std.proofs.Common.{refl}
 use Rattle.pei_asm.specs.Faults.{line_fault}
-use Rattle.pei_asm.specs.Mnemonics.{register_names, table}
+use Rattle.asm_statements.specs.Mnemonics.{register_names, table}
 use Rattle.pei_asm.proofs.evidence.encodings_are_right.Goals as goal
 
 pub returns : goal.returns

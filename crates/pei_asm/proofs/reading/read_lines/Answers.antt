@@ -5,7 +5,7 @@ use Rattle.std.specs.Prelude.{option_map, filter_map}
 use Rattle.std.specs.Option.{option_map_or}
 use Rattle.pei_asm.specs.Faults.{first_line_fault}
 use Rattle.pei_asm.specs.Sources.{line_of}
-use Rattle.pei_asm.specs.Statements.{meaning_of}
+use Rattle.asm_statements.specs.Statements.{meaning_of}
 use Rattle.pei_asm.specs.Stored.{lines_left, stored}
 use Rattle.pei_asm.proofs.LineSplits.{one_line_on, stops_at_a_fault, one_meaning_on}
 use Rattle.pei_asm.proofs.reading.read_lines.Goals as goal

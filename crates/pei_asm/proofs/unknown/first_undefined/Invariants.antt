@@ -1,6 +1,6 @@
 use Rattle.std.proofs.Common.{◌≡◌, drop, map}
 use Rattle.std.specs.Prelude.{find, option_map}
-use Rattle.pei_asm.specs.Lexemes.{placed_of}
+use Rattle.asm_statements.specs.Lexemes.{placed_of}
 use Rattle.pei_asm.specs.Stored.{stored}
 use Rattle.pei_asm.specs.Unknown.{is_undefined}
 use Rattle.pei_asm.proofs.unknown.first_undefined.Given as goal

@@ -1,8 +1,9 @@
 use Rattle.std.proofs.Common.{arith, ◌≡◌, List, [], ◌∷◌, length, None, Some, map, option_map, refl, sym, ap, ◌∙◌}
-use Rattle.pei_asm.specs.declared.tokens.Lexeme.{Lexeme}
-use Rattle.pei_asm.specs.Lexemes.{placed_of}
-use Rattle.pei_asm.specs.Sources.{line_of, statement_of}
-use Rattle.pei_asm.specs.Statements.{body_of, label_of, statement_in}
+use Rattle.asm_statements.specs.declared.tokens.Lexeme.{Lexeme}
+use Rattle.asm_statements.specs.Lexemes.{placed_of}
+use Rattle.pei_asm.specs.Sources.{line_of}
+use Rattle.asm_statements.specs.Sources.{statement_of}
+use Rattle.asm_statements.specs.Statements.{body_of, label_of, statement_in}
 use Rattle.pei_asm.specs.Stored.{stored}
 use Rattle.pei_asm.proofs.LineTrials.{fault_behind, fault_in_front, label_is_new, label_meant, nothing_stands, operands_fail, statement_fits, statement_meant, statement_stands, there_is_room}
 use Rattle.pei_asm.proofs.verdicts.read_line.Goals as goal
