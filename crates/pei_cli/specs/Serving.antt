@@ -1,5 +1,5 @@
 -- What a command comes to.
-use Rattle.std.specs.Prelude.{◌≡◌, ◌≢◌, ⊤, ◌⊎◌, ℕ, ◌<◌, ◌≤◌, List, length, take, Some, None, IfSome, IsSomeAnd, Result, Ok, Err}
+use Rattle.std.specs.Prelude.{◌≡◌, ◌≢◌, ◌⊎◌, ℕ, ◌<◌, ◌≤◌, List, length, take, Some, None, IfSome, IsSomeAnd, Result, Ok, Err}
 use Rattle.pei_types.specs.declared.machines.MachineSpec.{MachineSpec}
 use Rattle.pei_types.specs.Ends.{ends_of, status_of}
 use Rattle.pei_types.specs.Image.{IsImageOf, load_refusal}
@@ -40,12 +40,13 @@ pub record IsRead (u : FileUse) (file bytes : List ℕ) : Type 0 where
   pub within : length bytes ≤ 1048576
 
 -- Why the file of this name was not read: it has more bytes than it may have, of which one more than that was taken; or it
--- could not be opened or read, and that was counted. Want of memory is free.
+-- could not be opened or read, and that was counted. Want of memory is free, but of a file that is too long the first is
+-- told: so a file is too long exactly where one byte more than it may have was taken.
 abbrev pub FailsToRead : Which → List ℕ → FileUse → Fault → Type 0
 FailsToRead w file u (fault.InputTooLong x) =
     (x ≡ w) × (u.name ≡ Some file) × (u.taken ≡ 1048577) × IfSome (u.held file) (λ b. 1048576 < length b)
 FailsToRead w file u (fault.ReadFault x) = (x ≡ w) × (u.name ≡ Some file) × Rose u.faults u.faults_now × (u.taken ≤ 1048576)
-FailsToRead w file u fault.OutOfMemory = ⊤
+FailsToRead w file u fault.OutOfMemory = u.taken ≤ 1048576
 FailsToRead w file u _ = ⊥
 
 -- ---- reading the program
