@@ -10,7 +10,7 @@ use Rattle.pei_types.specs.declared.machines.MachineSpec.{MachineSpec}
 use Rattle.pei_types.specs.Blocks.{llc_set_of}
 use Rattle.pei_types.specs.Coherence as state
 use Rattle.pei_types.specs.Recency.{change_at, list_at, without, to_front, victim}
-use Rattle.llc.specs.declared.lines.HeldLine.{HeldLine}
+use Rattle.pei_types.specs.declared.lines.HeldLine.{HeldLine}
 use Rattle.llc.specs.Cache.{Cache, empty_cache, set_of, lines_of, is_held_of, held_of, mark_of, mark_in, room_for, with_set, with_touch, with_line, with_dirty, with_clean, without_line}
 use Rattle.llc.specs.Laws.{bare, bare_sets, IsCacheOf}
 use Rattle.std.proofs.lemmas.Bool.{cases_Bool}

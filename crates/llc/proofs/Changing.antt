@@ -7,7 +7,7 @@ use Rattle.pei_types.specs.declared.operations.Mark.TheVariants as mark
 use Rattle.pei_types.specs.Recency.{change_at, without, to_front}
 use Rattle.set_lists.specs.Placed.{Placed, IsAt, key_at, touched, inserted, removed}
 use Rattle.set_lists.specs.Laws.{held, FollowsKey, SetsFollow}
-use Rattle.llc.specs.declared.lines.HeldLine.{HeldLine}
+use Rattle.pei_types.specs.declared.lines.HeldLine.{HeldLine}
 use Rattle.llc.specs.Cache.{is_held_of, with_set, with_touch, with_line, with_dirty, with_clean, without_line}
 use Rattle.llc.specs.Inside.{line_at, cache_of, IsKept}
 use Rattle.llc.proofs.Looking.{set_is, tells_block}

@@ -5,7 +5,7 @@ use Rattle.std.proofs.lemmas.List.{get_or-set_same, get_or-set_other, length-set
 use Rattle.pei_types.specs.Coherence.{is_absent}
 use Rattle.set_lists.specs.Placed.{Placed, IsListed, IsPlaced, key_at, inserted, removed}
 use Rattle.set_lists.specs.Laws.{SlotsFollow}
-use Rattle.llc.specs.declared.lines.HeldLine.{HeldLine}
+use Rattle.pei_types.specs.declared.lines.HeldLine.{HeldLine}
 use Rattle.llc.specs.Inside.{line_at, IsKept, blank}
 
 pub set_same : (lines : List HeldLine) (slot : ℕ) (x : HeldLine) → slot < length lines → line_at (slice_set lines slot x) slot ≡ x

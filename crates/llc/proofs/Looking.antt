@@ -8,7 +8,7 @@ use Rattle.pei_types.specs.Coherence.{is_absent}
 use Rattle.pei_types.specs.Recency.{list_at, victim}
 use Rattle.set_lists.specs.Placed.{Placed, IsAt, IsListed, key_at, is_key, has_key}
 use Rattle.set_lists.specs.Laws.{held, Tells, SetsFollow}
-use Rattle.llc.specs.declared.lines.HeldLine.{HeldLine}
+use Rattle.pei_types.specs.declared.lines.HeldLine.{HeldLine}
 use Rattle.llc.specs.Cache.{set_of, lines_of, is_held_of, held_of, mark_of, mark_in, content_of, content_in, room_for}
 use Rattle.llc.specs.Inside.{line_at, cache_of, IsKept, blank}
 

@@ -4,7 +4,7 @@ use Rattle.pei_types.specs.declared.operations.Mark.TheVariants as mark
 use Rattle.pei_types.specs.Coherence.{is_absent}
 use Rattle.set_lists.specs.Placed.{Placed, IsListed, IsPlaced, key_at}
 use Rattle.set_lists.specs.Laws.{held}
-use Rattle.llc.specs.declared.lines.HeldLine.{HeldLine}
+use Rattle.pei_types.specs.declared.lines.HeldLine.{HeldLine}
 use Rattle.llc.specs.declared.Llc.TheInside.{Inside}
 use Rattle.llc.specs.Cache.{Cache}
 

@@ -7,7 +7,7 @@ use Rattle.pei_types.specs.declared.operations.Mark.TheVariants as mark
 use Rattle.pei_types.specs.declared.machines.MachineSpec.{MachineSpec}
 use Rattle.pei_types.specs.Coherence as state
 use Rattle.pei_types.specs.Recency.{victim}
-use Rattle.llc.specs.declared.lines.HeldLine.{HeldLine}
+use Rattle.pei_types.specs.declared.lines.HeldLine.{HeldLine}
 use Rattle.llc.specs.Cache.{Cache, empty_cache, mark_of, room_for, with_touch, with_line, with_dirty, with_clean, without_line}
 
 -- a line without its content

@@ -5,7 +5,6 @@
 #![tactic(auto)]
 
 pub mod laws;
-mod lines;
 
 ghost use Rattle.std.specs.Prelude.{◌≡◌, ◌≢◌, ℕ, ◌%◌, ◌<◌, IfOk, Some, None, true, false, length, find, replicate, IsSome};
 ghost use Rattle.pei_types.specs.Coherence.{is_absent};
@@ -15,8 +14,7 @@ ghost use Rattle.set_lists.specs.Placed.{IsAt, IsOfSet, IsPlaced, has_key, touch
 ghost use Rattle.llc.specs.Inside.{blank};
 ghost use Rattle.llc.specs.Cache.{empty_cache, set_of, mark_of, content_of, room_for, with_touch, with_line, with_dirty, with_clean, without_line, block_in, ComesIn, GoesOut};
 
-pub use lines::HeldLine;
-use pei_types::{Block, BlockNo, Mark, OutOfMemory};
+use pei_types::{Block, BlockNo, HeldLine, Mark, OutOfMemory};
 use set_lists::SetLists;
 use set_lists::laws::sets_follow;
 use std::alloc::Global;

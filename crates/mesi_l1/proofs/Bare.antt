@@ -11,7 +11,7 @@ use Rattle.pei_types.specs.declared.machines.MachineSpec.{MachineSpec}
 use Rattle.pei_types.specs.Blocks.{l1_set_of}
 use Rattle.pei_types.specs.Coherence as state
 use Rattle.pei_types.specs.Recency.{change_at, list_at, without, to_front, victim}
-use Rattle.mesi_l1.specs.declared.lines.CopyLine.{CopyLine}
+use Rattle.pei_types.specs.declared.lines.CopyLine.{CopyLine}
 use Rattle.mesi_l1.specs.Cache.{Cache, empty_cache, set_of, lines_of, is_copy_of, copy_of, letter_of, letter_in, room_for, with_set, with_touch, with_front, with_shared, without_copy}
 use Rattle.mesi_l1.specs.Laws.{bare, bare_sets, IsCacheOf}
 use Rattle.pei_types.proofs.Lists.{length-change_at, list_at-change_at_same}

@@ -8,7 +8,7 @@ use Rattle.pei_types.specs.declared.operations.Letter.TheVariants as letter
 use Rattle.pei_types.specs.Recency.{change_at, list_at, without, to_front}
 use Rattle.set_lists.specs.Placed.{Placed, IsAt, key_at, has_key, touched, inserted, removed}
 use Rattle.set_lists.specs.Laws.{held, FollowsKey, SetsFollow}
-use Rattle.mesi_l1.specs.declared.lines.CopyLine.{CopyLine}
+use Rattle.pei_types.specs.declared.lines.CopyLine.{CopyLine}
 use Rattle.mesi_l1.specs.Cache.{is_copy_of, with_set, with_touch, with_front, with_shared, without_copy}
 use Rattle.mesi_l1.specs.Inside.{line_at, cache_of, IsKept}
 use Rattle.mesi_l1.proofs.Looking.{set_is, tells_block}

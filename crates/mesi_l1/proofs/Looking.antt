@@ -8,7 +8,7 @@ use Rattle.pei_types.specs.Coherence.{is_i}
 use Rattle.pei_types.specs.Recency.{list_at, victim}
 use Rattle.set_lists.specs.Placed.{Placed, IsAt, IsListed, key_at, is_key, has_key}
 use Rattle.set_lists.specs.Laws.{held, Tells, SetsFollow}
-use Rattle.mesi_l1.specs.declared.lines.CopyLine.{CopyLine}
+use Rattle.pei_types.specs.declared.lines.CopyLine.{CopyLine}
 use Rattle.mesi_l1.specs.Cache.{set_of, lines_of, is_copy_of, copy_of, letter_of, letter_in, content_of, content_in, room_for}
 use Rattle.mesi_l1.specs.Inside.{line_at, cache_of, IsKept, blank}
 

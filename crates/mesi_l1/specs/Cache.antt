@@ -8,7 +8,7 @@ use Rattle.pei_types.specs.declared.operations.Letter.TheVariants as letter
 use Rattle.pei_types.specs.Blocks.{same_block}
 use Rattle.pei_types.specs.Recency.{change_at, list_at, without, to_front, victim}
 use Rattle.set_lists.specs.Placed.{IsOfSet}
-use Rattle.mesi_l1.specs.declared.lines.CopyLine.{CopyLine}
+use Rattle.pei_types.specs.declared.lines.CopyLine.{CopyLine}
 
 -- How many lines a set has room for, the lines of each set, the most recent first, and the number of the block in each
 -- slot. A set has `ways` slots in a row.

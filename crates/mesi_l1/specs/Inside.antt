@@ -4,7 +4,7 @@ use Rattle.pei_types.specs.declared.operations.Letter.TheVariants as letter
 use Rattle.pei_types.specs.Coherence.{is_i}
 use Rattle.set_lists.specs.Placed.{Placed, IsListed, IsPlaced, key_at}
 use Rattle.set_lists.specs.Laws.{held}
-use Rattle.mesi_l1.specs.declared.lines.CopyLine.{CopyLine}
+use Rattle.pei_types.specs.declared.lines.CopyLine.{CopyLine}
 use Rattle.mesi_l1.specs.declared.L1.TheInside.{Inside}
 use Rattle.mesi_l1.specs.Cache.{Cache}
 

@@ -9,7 +9,7 @@ use Rattle.pei_types.specs.declared.operations.Letter.{Letter}
 use Rattle.pei_types.specs.declared.machines.MachineSpec.{MachineSpec}
 use Rattle.pei_types.specs.Coherence as state
 use Rattle.pei_types.specs.Recency.{list_at, victim}
-use Rattle.mesi_l1.specs.declared.lines.CopyLine.{CopyLine}
+use Rattle.pei_types.specs.declared.lines.CopyLine.{CopyLine}
 use Rattle.mesi_l1.specs.Cache.{Cache, empty_cache, letter_of, room_for, with_touch, with_front, with_shared, without_copy}
 
 -- a line without its content

@@ -5,7 +5,6 @@
 #![tactic(auto)]
 
 pub mod laws;
-mod lines;
 
 ghost use Rattle.std.specs.Prelude.{◌≡◌, ℕ, ◌%◌, ◌<◌, IfOk, Some, None, true, false, length, slice_index, find, replicate, IsSome};
 ghost use Rattle.pei_types.specs.Coherence.{is_i, is_owned};
@@ -16,8 +15,7 @@ ghost use Rattle.set_lists.specs.Placed.{IsAt, IsOfSet, IsPlaced, has_key, touch
 ghost use Rattle.mesi_l1.specs.Inside.{blank};
 ghost use Rattle.mesi_l1.specs.Cache.{empty_cache, set_of, letter_of, content_of, room_for, with_touch, with_front, with_shared, without_copy, block_in, ComesIn, GoesOut};
 
-pub use lines::CopyLine;
-use pei_types::{Block, BlockNo, Letter, OutOfMemory};
+use pei_types::{Block, BlockNo, CopyLine, Letter, OutOfMemory};
 use set_lists::SetLists;
 use set_lists::laws::sets_follow;
 use std::alloc::Global;

@@ -1,6 +1,6 @@
 use Rattle.std.proofs.Common.{◌%◌, length, refl, ap}
 use Rattle.pei_types.specs.declared.operations.Mark.TheVariants as mark
-use Rattle.llc.specs.declared.lines.HeldLine.{HeldLine}
+use Rattle.pei_types.specs.declared.lines.HeldLine.{HeldLine}
 use Rattle.llc.proofs.Looking.{line_read}
 use Rattle.llc.proofs.Changing.{dirty_is}
 use Rattle.llc.proofs.Llc.take_back.Goals as goal

@@ -1,6 +1,6 @@
 use Rattle.std.proofs.Common.{◌%◌, length, refl, ap, ◌∙◌}
 use Rattle.pei_types.specs.declared.operations.Letter.TheVariants as letter
-use Rattle.mesi_l1.specs.declared.lines.CopyLine.{CopyLine}
+use Rattle.pei_types.specs.declared.lines.CopyLine.{CopyLine}
 use Rattle.mesi_l1.specs.Cache.{letter_of}
 use Rattle.mesi_l1.specs.Inside.{shown}
 use Rattle.mesi_l1.proofs.Looking.{line_read, letter_read, content_read}

@@ -2,7 +2,7 @@ use Rattle.std.proofs.Common.{◌%◌, length, ap, ◌∙◌, refl}
 use Rattle.std.specs.Prelude.{slice_set}
 use Rattle.pei_types.specs.declared.identifiers.BlockNo.{BlockNo}
 use Rattle.pei_types.specs.declared.operations.Letter.TheVariants as letter
-use Rattle.mesi_l1.specs.declared.lines.CopyLine.{CopyLine}
+use Rattle.pei_types.specs.declared.lines.CopyLine.{CopyLine}
 use Rattle.mesi_l1.specs.Inside.{cache_of}
 use Rattle.mesi_l1.proofs.Looking.{line_read, block_at, content_read}
 use Rattle.mesi_l1.proofs.Changing.{front_is}

@@ -3,7 +3,7 @@ use Rattle.std.specs.Prelude.{slice_set}
 use Rattle.pei_types.specs.declared.identifiers.Block.{Block}
 use Rattle.pei_types.specs.declared.identifiers.BlockNo.{BlockNo}
 use Rattle.pei_types.specs.declared.operations.Letter.TheVariants as letter
-use Rattle.mesi_l1.specs.declared.lines.CopyLine.{CopyLine}
+use Rattle.pei_types.specs.declared.lines.CopyLine.{CopyLine}
 use Rattle.mesi_l1.specs.Cache.{content_of}
 use Rattle.mesi_l1.specs.Inside.{cache_of, shown}
 use Rattle.mesi_l1.proofs.Looking.{line_read, block_at, content_read}
