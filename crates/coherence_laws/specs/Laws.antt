@@ -7,6 +7,9 @@ use Rattle.pei_types.specs.declared.identifiers.BlockNo.{BlockNo}
 use Rattle.pei_types.specs.declared.identifiers.CoreId.{CoreId}
 use Rattle.pei_types.specs.declared.identifiers.Lane.{Lane}
 use Rattle.pei_types.specs.declared.identifiers.PeiId.{PeiId}
+use Rattle.pei_types.specs.declared.operations.Letter.TheVariants as letter
+use Rattle.pei_types.specs.declared.operations.Op.{Op}
+use Rattle.pei_types.specs.declared.operations.Operands.{Operands}
 use Rattle.pei_types.specs.declared.inflight_looks.PeiLook.{PeiLook}
 use Rattle.pei_types.specs.declared.inflight_looks.Phase.TheVariants as phase
 use Rattle.pei_types.specs.declared.events.Event.{Event}
@@ -15,7 +18,7 @@ use Rattle.pei_types.specs.declared.machines.MachineSpec.{MachineSpec}
 use Rattle.pei_types.specs.declared.events.EventKind.TheVariants as event
 use Rattle.pei_types.specs.Blocks.{block_of, same_core, same_lane}
 use Rattle.pei_types.specs.Calls.{is_actor_of}
-use Rattle.pei_types.specs.Coherence.{State, start_state, next_state, state_after, look_in, look_of, entry_is_taken, conflict, letter_of, is_i, is_phase, pei_id}
+use Rattle.pei_types.specs.Coherence.{State, start_state, next_state, state_after, look_in, look_of, entry_is_taken, conflict, letter_of, mark_of, is_i, is_owned, is_phase, pei_id, with_l1_front}
 use Rattle.pei_types.specs.Guard.{guard}
 use Rattle.pei_types.specs.Legal.{Legal, MachineLegal}
 use Rattle.pei_types.specs.Next.{Makes, call_row, lane_row}
@@ -23,11 +26,12 @@ use Rattle.pei_types.specs.Turns.{EvictsLast, PlacesByMonitor, SealsHold, is_ent
 use Rattle.pei_types.specs.Core.{CoreNext}
 use Rattle.pei_types.specs.Replies.{RepliesRightly}
 use Rattle.pei_types.specs.FlatMemory.{flat_block}
+use Rattle.pei_types.specs.Operation.{is_writer, block_after}
 use Rattle.pei_types.specs.Program.{Listing, Contents}
-use Rattle.coherence_laws.specs.Invariants.{Invariants, IsAsIssued}
+use Rattle.coherence_laws.specs.Invariants.{Invariants, HoldsSeal, IsAsIssued, caches_alone}
 use Rattle.coherence_laws.specs.Sets.{Each}
-use Rattle.coherence_laws.specs.Holdings.{Holdings, Follows, start_holdings, next_holdings, data_of}
-use Rattle.coherence_laws.specs.Data.{start_data, Data, DataHolds, BuffersHold, next_data, next_flat, data_after, peek, SameWhereThere}
+use Rattle.coherence_laws.specs.Holdings.{Holdings, Follows, start_holdings, next_holdings, data_of, with_copy_front}
+use Rattle.coherence_laws.specs.Data.{start_data, Data, DataHolds, BuffersHold, next_data, next_flat, data_after, peek, SameWhereThere, at_block, with_copy}
 
 -- each PEI of the state after a journal is in the journal as it was issued
 abbrev pub PeisAreAsIssued : MachineSpec → List Event → Type 0
@@ -41,12 +45,13 @@ pub record LanesHoldPeis : Type 0 where
   pub placed : (m : MachineSpec) (s : State) (a : Actor) (seq : ℕ) (p : PeiLook) → Invariants m s → look_of s (pei_id a seq) ≡ Some p → same_lane p.lane a.lane ≡ true → look_in s a.core a.lane ≡ Some p
 
 -- The first state has the invariants, and every event of an actor of the machine that meets its guard keeps them. So
--- the state after a legal journal has them.
+-- the state after a legal journal has them. The caches of a state that has them have them alone, beside no PEI.
 pub record KeepsInvariants : Type 0 where
   pub start : (m : MachineSpec) → Invariants m (start_state m)
   pub next : (m : MachineSpec) (s : State) (a : Actor) (kind : EventKind) → Invariants m s → IsTrue (is_actor_of m a) → IsTrue (guard m s a kind) → Invariants m (next_state m s a kind)
   pub legal : (p : Listing) (m : MachineSpec) (image : Contents) (journal : List Event) → Legal p m image journal → Invariants m (state_after m journal)
   pub alone : (m : MachineSpec) (image : Contents) (journal : List Event) → MachineLegal m image journal → Invariants m (state_after m journal)
+  pub caches : (m : MachineSpec) (s : State) → Invariants m s → Invariants m (caches_alone m s.l1 s.llc)
 
 -- a load or a store races with no PEI on its way
 abbrev pub IsNoRace : State → EventKind → Type 0
@@ -86,6 +91,15 @@ pub record KeepsContents : Type 0 where
   pub shows : (m : MachineSpec) (s : State) (d : Data) (a : Actor) (kind : EventKind) (b : BlockNo) → Invariants m s → IsTrue (is_actor_of m a) → IsTrue (guard m s a kind) → DataHolds m s d (peek m s d) → peek m (next_state m s a kind) (next_data m s d a kind) b ≡ next_flat s (peek m s d) a kind b
   pub same : (m : MachineSpec) (s : State) (d g : Data) (flat : BlockNo → Block) → Invariants m s → SameWhereThere m s d g → DataHolds m s d flat → DataHolds m s g flat
   pub same_buffers : (m : MachineSpec) (s : State) (d g : Data) (flat : BlockNo → Block) → SameWhereThere m s d g → BuffersHold s d flat → BuffersHold s g flat
+
+-- A block that is written whole, in a state with the invariants: by a core, in a copy that it may write, or by memory,
+-- which executes a PEI on a block as under a seal. Then memory holds what was written there, and all else as before.
+pub record KeepsWrites : Type 0 where
+  pub invariants : (m : MachineSpec) (s : State) (c : CoreId) (b : BlockNo) → Invariants m s → is_owned (letter_of m s c b) ≡ true → Invariants m (with_l1_front m s c b letter.M)
+  pub lines : (m : MachineSpec) (s : State) (k : Holdings) (d : Data) (c : CoreId) (b : BlockNo) (content : Block) → Invariants m s → is_owned (letter_of m s c b) ≡ true → Follows m s k d → Follows m (with_l1_front m s c b letter.M) (with_copy_front m k c b letter.M content) (with_copy d c b content)
+  pub copies : (m : MachineSpec) (s : State) (d : Data) (flat : BlockNo → Block) (c : CoreId) (b : BlockNo) (content : Block) → Invariants m s → is_owned (letter_of m s c b) ≡ true → DataHolds m s d flat → DataHolds m (with_l1_front m s c b letter.M) (with_copy d c b content) (at_block flat b content)
+  pub current : (m : MachineSpec) (s : State) (d : Data) (flat : BlockNo → Block) (b : BlockNo) (writer : Bool) → HoldsSeal (letter_of m s) (mark_of m s) b writer → DataHolds m s d flat → d.vault b ≡ flat b
+  pub vaults : (m : MachineSpec) (s : State) (d : Data) (flat : BlockNo → Block) (b : BlockNo) (o : Op) (operands : Operands) → HoldsSeal (letter_of m s) (mark_of m s) b (is_writer o) → DataHolds m s d flat → DataHolds m s (record d { vault = at_block d.vault b (block_after o operands (d.vault b)) }) (at_block flat b (block_after o operands (flat b)))
 
 -- After a legal journal the contents hold flat memory, and so does what is seen of each block and what is in the
 -- buffers of PEIs between read and act. Each PEI of the state is as it was issued.

@@ -1,9 +1,10 @@
 //! The laws, each the contract of a function with an empty body.
 
-ghost use Rattle.coherence_laws.specs.Laws.{KeepsInvariants, RowsAreAllowed, KeepsContents, HoldsFlatMemory, LanesHoldPeis, FollowsContents, TurnsAreAllowed, ReadsAreCurrent, FlatMemoryGoesOn};
+ghost use Rattle.coherence_laws.specs.Laws.{KeepsInvariants, KeepsWrites, RowsAreAllowed, KeepsContents, HoldsFlatMemory, LanesHoldPeis, FollowsContents, TurnsAreAllowed, ReadsAreCurrent, FlatMemoryGoesOn};
 
 /// One writable copy of a block, inclusion, sets within their ways, queues within their length, seals that hold, and
-/// exclusion among active PEIs: the first state has these invariants, and every event that meets its guard keeps them.
+/// exclusion among active PEIs: the first state has these invariants, and every event that meets its guard keeps them. The
+/// caches keep theirs beside no PEI.
 pub fn invariants_are_kept()
     ensures { KeepsInvariants }
 {}
@@ -48,4 +49,10 @@ pub fn flat_memory_is_held()
 /// Cache lines that carry their contents, changed line by line, stay those of the state and hold the same memory.
 pub fn lines_follow()
     ensures { FollowsContents }
+{}
+
+/// A block that a core writes whole in a copy that it may write, or that memory executes a PEI on, has the new content,
+/// and memory holds all else as before.
+pub fn writes_are_kept()
+    ensures { KeepsWrites }
 {}

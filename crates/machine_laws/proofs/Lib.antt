@@ -1,3 +1,4 @@
 pub mod Machine
 pub mod Programs
 pub mod Memory
+pub mod Caches

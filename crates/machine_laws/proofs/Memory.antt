@@ -30,7 +30,7 @@ use Rattle.machine_laws.specs.Memory.{HoldsMemory, SameHoldings, seen_block, hol
 use Rattle.machine_laws.specs.Standing.{MachineInOrder}
 
 -- lines follow the state and their own contents
-follow_themselves : (m : MachineSpec) (s : State) (k : Holdings) (memory : BlockNo → Block) → HoldsMemory m s k memory → Follows m s k (data_of m k)
+pub follow_themselves : (m : MachineSpec) (s : State) (k : Holdings) (memory : BlockNo → Block) → HoldsMemory m s k memory → Follows m s k (data_of m k)
 follow_themselves m s k memory h =
     record { l1 = h.l1; llc = h.llc; copies = λ c b e. refl; lines = λ b e. refl; vaults = λ b. refl; buffers = λ id. refl }
 

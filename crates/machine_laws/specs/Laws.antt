@@ -6,26 +6,30 @@ use Rattle.pei_types.specs.declared.identifiers.Block.{Block}
 use Rattle.pei_types.specs.declared.identifiers.BlockNo.{BlockNo}
 use Rattle.pei_types.specs.declared.identifiers.CoreId.{CoreId}
 use Rattle.pei_types.specs.declared.identifiers.PeiId.{PeiId}
+use Rattle.pei_types.specs.declared.operations.Letter.TheVariants as letter
+use Rattle.pei_types.specs.declared.operations.Op.{Op}
+use Rattle.pei_types.specs.declared.operations.Operands.{Operands}
 use Rattle.pei_types.specs.declared.inflight_looks.PeiLook.{PeiLook}
 use Rattle.pei_types.specs.declared.inflight_looks.Phase.TheVariants as phase
 use Rattle.pei_types.specs.declared.events.Event.{Event}
 use Rattle.pei_types.specs.declared.events.EventKind.{EventKind}
 use Rattle.pei_types.specs.declared.machines.MachineSpec.{MachineSpec}
 use Rattle.pei_types.specs.Calls.{Messages, is_actor_of, side_of}
-use Rattle.pei_types.specs.Coherence.{State, start_state, next_state, state_after, letter_of, is_i, look_of, is_phase}
+use Rattle.pei_types.specs.Coherence.{State, start_state, next_state, state_after, letter_of, mark_of, is_i, is_owned, look_of, is_phase, with_l1_front}
 use Rattle.pei_types.specs.Core.{CoreNext}
 use Rattle.pei_types.specs.FlatMemory.{flat_block}
 use Rattle.pei_types.specs.Guard.{guard}
 use Rattle.pei_types.specs.Legal.{EachEvent, Legal, MachineLegal, Meets, MeetsAll}
+use Rattle.pei_types.specs.Operation.{is_writer, block_after}
 use Rattle.pei_types.specs.Program.{Listing, Contents, block_at}
 use Rattle.pei_types.specs.Schedule.{Run, Policy, run_at_start, turn, scheduled_run, whole_table, round_robin, serial, by_draws, by_list}
 use Rattle.pei_types.specs.Turns.{IsNextOf}
 use Rattle.history_laws.specs.Fits.{AsksForFence, EntersFree}
 use Rattle.history_laws.specs.Runs.{WholeRun}
 use Rattle.history_laws.specs.Sound.{ChoosesActors, IssuesUnfenced, GoesByRow}
-use Rattle.coherence_laws.specs.Data.{next_flat}
-use Rattle.coherence_laws.specs.Holdings.{Holdings, held_copy, start_holdings, next_holdings}
-use Rattle.coherence_laws.specs.Invariants.{Invariants}
+use Rattle.coherence_laws.specs.Data.{at_block, next_flat}
+use Rattle.coherence_laws.specs.Holdings.{Holdings, held_copy, start_holdings, next_holdings, with_copy_front}
+use Rattle.coherence_laws.specs.Invariants.{Invariants, HoldsSeal, caches_alone}
 use Rattle.coherence_laws.specs.Laws.{IsNoRace}
 use Rattle.machine_laws.specs.Memory.{HoldsMemory, SameHoldings, seen_block, holdings_after}
 use Rattle.machine_laws.specs.Standing.{MachineInOrder, RunInOrder}
@@ -89,3 +93,11 @@ pub record ContentsAreKept : Type 0 where
   pub same : (m : MachineSpec) (s : State) (k l : Holdings) (memory : BlockNo → Block) → Invariants m s → SameHoldings s k l → HoldsMemory m s k memory → HoldsMemory m s l memory
   pub event : (x : CoreNext) (m : MachineSpec) (image : Contents) (journal : List Event) (k : Holdings) (e : Event) → MachineInOrder m journal → MeetsAll x m image journal e → HoldsMemory m (state_after m journal) k (flat_block image journal) → HoldsMemory m (state_after m (journal ++ e ∷ [])) (next_holdings m (state_after m journal) k e.actor e.kind) (flat_block image (journal ++ e ∷ []))
   pub journal : (m : MachineSpec) (image : Contents) (journal : List Event) → MachineLegal m image journal → HoldsMemory m (state_after m journal) (holdings_after m image journal) (flat_block image journal)
+
+-- The caches of a machine hold memory by themselves, beside no PEI. Then a block that a core writes whole, in a copy that
+-- it may write, or that memory executes a PEI on as under a seal, is what was written, and memory holds all else as before.
+pub record CachesHoldMemory : Type 0 where
+  pub invariants : (m : MachineSpec) (s : State) → Invariants m s → Invariants m (caches_alone m s.l1 s.llc)
+  pub alone : (m : MachineSpec) (s : State) (k : Holdings) (memory : BlockNo → Block) → HoldsMemory m s k memory → HoldsMemory m (caches_alone m s.l1 s.llc) k memory
+  pub written : (m : MachineSpec) (s : State) (k : Holdings) (memory : BlockNo → Block) (c : CoreId) (b : BlockNo) (content : Block) → s.peis ≡ [] → Invariants m s → is_owned (letter_of m s c b) ≡ true → HoldsMemory m s k memory → Invariants m (with_l1_front m s c b letter.M) × HoldsMemory m (with_l1_front m s c b letter.M) (with_copy_front m k c b letter.M content) (at_block memory b content)
+  pub executed : (m : MachineSpec) (s : State) (k : Holdings) (memory : BlockNo → Block) (b : BlockNo) (o : Op) (operands : Operands) → s.peis ≡ [] → HoldsSeal (letter_of m s) (mark_of m s) b (is_writer o) → HoldsMemory m s k memory → (k.vault b ≡ memory b) × HoldsMemory m s (record k { vault = at_block k.vault b (block_after o operands (k.vault b)) }) (at_block memory b (block_after o operands (memory b)))

@@ -1,6 +1,6 @@
 //! The laws, each the contract of a function with an empty body, but for the laws that it rests on.
 
-ghost use Rattle.machine_laws.specs.Laws.{MachineGoesOn, RowsMeetAll, RowsMakeLegal, WholeRunsAreLegal, ContentsAreKept};
+ghost use Rattle.machine_laws.specs.Laws.{MachineGoesOn, RowsMeetAll, RowsMakeLegal, WholeRunsAreLegal, ContentsAreKept, CachesHoldMemory};
 
 use coherence_laws::laws as coherence;
 use history_laws::laws as histories;
@@ -63,4 +63,14 @@ pub fn contents_are_kept()
     coherence::flat_memory_goes_on();
     coherence::flat_memory_is_held();
     coherence::lines_follow();
+}
+
+/// The caches of a machine hold memory by themselves, beside no PEI, and a block that is written whole, by a core or by
+/// memory, is what memory then holds.
+pub fn caches_hold_memory()
+    ensures { CachesHoldMemory }
+{
+    coherence::invariants_are_kept();
+    coherence::lines_follow();
+    coherence::writes_are_kept();
 }
