@@ -257,7 +257,7 @@ module _ {S : Type 0} (log : S → List Event) (active : S → List Active) (k :
   -- the table that a seat closes which stands for all cores
   pub closes : (id b : ℕ) (v : Knowledge) (ws : List ℕ) (xs : List (Option S)) → b < k.banks → Final (Seen (Ruled log active k) id v) ws xs → v.side.turn ≡ 0 → v.side.share ≡ k.cores
       → (x : S) × (get_elem? xs b ≡ some (Some x)) × Fits (log x) (active x) v.side.name.core (diary_of b v.side.diaries) × Each (λ _ g. Fits (log x) (active x) g.core (diary_of b g.diaries)) v.side.gathered
-      × ((c : ℕ) → v.side.name.core ≢ c → Each (λ _ g. g.core ≢ c) v.side.gathered → (events_of c (log x) ≡ []) × (active_of c (active x) ≡ []))
+      × ((c : ℕ) → v.side.name.core ≢ c → Each (λ _ g. g.core ≢ c) v.side.gathered → (events_of c (log x) ≡ []) × (active_of c (active x) ≡ [])) × (active x ≡ active_in k.entries (log x))
   closes id b v ws xs inside f idle whole = let s : St S = f.0 in let r = f.1.0 in let at = at_map side_of s.views id v f.1.1 in
       let p = all_home log active k.entries k.cores k.banks b (λ c. get_or s.words c 0) s.homes (map side_of s.views) id v.side inside r.slotted at idle whole in let x : S = p.0 in
       let fit : (c : ℕ) (d : Diary) → Fits (r.slotted.l b) (r.slotted.a b) c d → Fits (log x) (active x) c d = λ c d. subst (λ (z : List Event × List Active). Fits z.0 z.1 c d) (λ j. (sym p.3 j, sym p.4 j)) in (
@@ -267,6 +267,7 @@ module _ {S : Type 0} (log : S → List Event) (active : S → List Active) (k :
         (λ i g e. let t = r.slotted.gathered id v.side at i g e in fit g.core (diary_of b g.diaries) (subst (λ (z : ℕ × List Diary). Fits (r.slotted.l b) (r.slotted.a b) z.0 (diary_of b z.1)) (λ j. (t.4 j, t.5 j)) (r.slotted.fits t.0 t.1 t.2 b inside))),
         (λ c own others. let t = r.slotted.strays c (all_absent log active k.entries k.cores k.banks (λ d. get_or s.words d 0) s.homes (map side_of s.views) id v.side r.slotted at whole c own others) b inside in
             (ap (events_of c) p.3 ∙ t.0, ap (active_of c) p.4 ∙ t.1)),
+        p.4 ∙ r.slotted.whole b inside ∙ ap (active_in k.entries) (sym p.3),
       )
 
   pub takes_turn_as : (slots id b c entries : ℕ) (me : Sat S) → b < k.banks → entries ≡ k.entries → c ≡ me.0.side.name.core + 1 → me.0.side.gone ≡ false → me.0.side.turn ≡ 0 → Each (λ _ d. IsWithin k.entries d) me.0.claims

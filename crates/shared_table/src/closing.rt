@@ -2,6 +2,7 @@
 ghost use Rattle.std.specs.Prelude.{◌≡◌, ◌≢◌, ℕ, ◌+◌, ◌<◌, ◌≤◌, ◌∷◌, [], length, map, slice_index_or, true, false, Some};
 ghost use mathlib.Core.Option.{some};
 ghost use lib.ListN.{get_elem?};
+ghost use Rattle.shared_table.specs.Actives.{active_in};
 ghost use Rattle.shared_table.specs.Claims.{gathering, once_gone};
 ghost use Rattle.shared_table.specs.Closing.{AllIdle, IsAbsent, gather_all};
 ghost use Rattle.std.specs.Slots.{slots_filled, slots_len};
@@ -83,13 +84,14 @@ impl<S: Shared> SharedTable<S> {
     ///
     /// All seats are back and none has the slot. The log of the value has for each core just the events that its seat
     /// has, none of a core without a seat, and begins with each log that a seat has seen. Claims and active PEIs may be
-    /// left.
+    /// left; the active PEIs are those with an Enter and no Leave in the log.
     pub fn close(self, seats: Seats<S>) -> (S, Receipt)
         requires table { seats.table ≡ self.table }
         requires all { length seats.list ≡ self.cores }
         requires idle { AllIdle seats.list }
         ensures seen { (i : ℕ) (s : SeatView) → get_elem? seats.list i ≡ some s → FitsSeat (S.log result.0) (S.active result.0) s }
         ensures others { (c : ℕ) → IsAbsent c seats.list → (events_of c (S.log result.0) ≡ []) × (active_of c (S.active result.0) ≡ []) }
+        ensures whole { S.active result.0 ≡ active_in self.entries (S.log result.0) }
         ensures receipt { result.1 ≡ map seat_account seats.list }
     {
         let _ = &self.table;
@@ -119,6 +121,7 @@ impl<S: Shared> SharedTable<S> {
         ensures own { Fits (S.log result) (S.active result) last.me.0.side.name.core (diary_of 0 last.me.0.side.diaries) }
         ensures gathered { (i : ℕ) (g : Gathered) → get_elem? last.me.0.side.gathered i ≡ some g → Fits (S.log result) (S.active result) g.core (diary_of 0 g.diaries) }
         ensures others { (c : ℕ) → last.me.0.side.name.core ≢ c → ((i : ℕ) (g : Gathered) → get_elem? last.me.0.side.gathered i ≡ some g → g.core ≢ c) → (events_of c (S.log result) ≡ []) × (active_of c (S.active result) ≡ []) }
+        ensures whole { S.active result ≡ active_in self.entries (S.log result) }
     {
         let SharedTable { table } = self;
         let mut closed = table.close_with(last);
