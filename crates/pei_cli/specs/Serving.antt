@@ -34,9 +34,9 @@ use Rattle.pei_cli.specs.declared.faults.Fault.TheVariants as fault
 -- The file of this name was opened and read: these bytes are what it holds, where that is told, as many were taken, and
 -- they are no more than a file may have.
 pub record IsRead (u : FileUse) (file bytes : List ℕ) : Type 0 where
-  pub named : u.name ≡ Some file
+  pub named : u.now.name ≡ Some file
   pub content : IfSome (u.held file) (λ b. bytes ≡ b)
-  pub count : u.taken ≡ length bytes
+  pub count : u.now.taken ≡ length bytes
   pub within : length bytes ≤ 1048576
 
 -- Why the file of this name was not read: it has more bytes than it may have, of which one more than that was taken; or it
@@ -44,9 +44,9 @@ pub record IsRead (u : FileUse) (file bytes : List ℕ) : Type 0 where
 -- told: so a file is too long exactly where one byte more than it may have was taken.
 abbrev pub FailsToRead : Which → List ℕ → FileUse → Fault → Type 0
 FailsToRead w file u (fault.InputTooLong x) =
-    (x ≡ w) × (u.name ≡ Some file) × (u.taken ≡ 1048577) × IfSome (u.held file) (λ b. 1048576 < length b)
-FailsToRead w file u (fault.ReadFault x) = (x ≡ w) × (u.name ≡ Some file) × Rose u.faults u.faults_now × (u.taken ≤ 1048576)
-FailsToRead w file u fault.OutOfMemory = u.taken ≤ 1048576
+    (x ≡ w) × (u.now.name ≡ Some file) × (u.now.taken ≡ 1048577) × IfSome (u.held file) (λ b. 1048576 < length b)
+FailsToRead w file u (fault.ReadFault x) = (x ≡ w) × (u.now.name ≡ Some file) × Rose u.before.faults u.now.faults × (u.now.taken ≤ 1048576)
+FailsToRead w file u fault.OutOfMemory = u.now.taken ≤ 1048576
 FailsToRead w file u _ = ⊥
 
 -- ---- reading the program

@@ -24,7 +24,7 @@ pub(crate) fn print_file<F: Files, K: Sink>(
     sink: &mut K,
 ) -> Result<PlainEnd, Fault>
     requires { F.name files.old Which.Program ≡ None }
-    ensures serves { Serves (Prints name.now) (file_use F.held F.name F.taken F.faults files.old files.new) (sink_use K.written K.faults sink.old sink.new) result }
+    ensures serves { Serves (Prints name.now) (file_use F.held F.left F.name F.taken F.faults files.old files.new) (sink_use K.written K.faults sink.old sink.new) result }
     ensures untouched { IfErr result (λ f. f ≢ Fault.WriteFault → sink.new ≡ sink.old) }
     ensures rising { F.faults files.old Which.Program ≤ F.faults files.new Which.Program }
     ensures sink_rising { K.faults sink.old ≤ K.faults sink.new }

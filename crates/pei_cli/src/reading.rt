@@ -26,7 +26,7 @@ pub(crate) fn read_program<F: Files>(
     name: &str,
 ) -> Result<Program, Fault>
     requires { F.name files.old Which.Program ≡ None }
-    ensures reads { ReadsProgram name.now (file_use F.held F.name F.taken F.faults files.old files.new Which.Program) result }
+    ensures reads { ReadsProgram name.now (file_use F.held F.left F.name F.taken F.faults files.old files.new Which.Program) result }
     ensures printable { IfOk result IsPrintable }
     ensures rising { F.faults files.old Which.Program ≤ F.faults files.new Which.Program }
     ensures others { LeavesOthers F.held F.left F.name F.taken F.faults Which.Program files.old files.new }
@@ -47,7 +47,7 @@ pub(crate) fn find_machine<F: Files>(
 ) -> Result<MachineSpec, Fault>
     requires unopened { F.name files.old Which.Machine ≡ None }
     requires cores { HasBuiltInCores machine }
-    ensures reads { ReadsMachine (machine_as name.now machine) (file_use F.held F.name F.taken F.faults files.old files.new Which.Machine) result }
+    ensures reads { ReadsMachine (machine_as name.now machine) (file_use F.held F.left F.name F.taken F.faults files.old files.new Which.Machine) result }
     ensures rising { F.faults files.old Which.Machine ≤ F.faults files.new Which.Machine }
     ensures others { LeavesOthers F.held F.left F.name F.taken F.faults Which.Machine files.old files.new }
     ensures unread { file_of_machine (machine_as name.now machine) ≡ None → files.new ≡ files.old }
@@ -65,7 +65,7 @@ fn read_machine_file<F: Files>(
     name: &str,
 ) -> Result<MachineSpec, Fault>
     requires { F.name files.old Which.Machine ≡ None }
-    ensures reads { ReadsMachine (FromFile name.now) (file_use F.held F.name F.taken F.faults files.old files.new Which.Machine) result }
+    ensures reads { ReadsMachine (FromFile name.now) (file_use F.held F.left F.name F.taken F.faults files.old files.new Which.Machine) result }
     ensures rising { F.faults files.old Which.Machine ≤ F.faults files.new Which.Machine }
     ensures others { LeavesOthers F.held F.left F.name F.taken F.faults Which.Machine files.old files.new }
 {
@@ -84,8 +84,8 @@ fn read_file<F: Files>(
     name: &str,
 ) -> Result<Bytes, Fault>
     requires { F.name files.old which ≡ None }
-    ensures read { IfOk result (λ bytes. IsRead (file_use F.held F.name F.taken F.faults files.old files.new which) name.now bytes) }
-    ensures failed { IfErr result (λ f. FailsToRead which name.now (file_use F.held F.name F.taken F.faults files.old files.new which) f) }
+    ensures read { IfOk result (λ bytes. IsRead (file_use F.held F.left F.name F.taken F.faults files.old files.new which) name.now bytes) }
+    ensures failed { IfErr result (λ f. FailsToRead which name.now (file_use F.held F.left F.name F.taken F.faults files.old files.new which) f) }
     ensures rising { F.faults files.old which ≤ F.faults files.new which }
     ensures others { LeavesOthers F.held F.left F.name F.taken F.faults which files.old files.new }
 {

@@ -33,7 +33,7 @@ pub(crate) fn run_file<F: Files, K: Sink>(
     requires unopened { (which : Which) → F.name files.old which ≡ None }
     requires cores { HasBuiltInCores run.now.machine }
     requires actors { (m : MachineSpec) → HasActorsOf m run.now.policy }
-    ensures serves { Serves (runs_as program_name.now machine_name.now run.now) (file_use F.held F.name F.taken F.faults files.old files.new) (sink_use K.written K.faults sink.old sink.new) result }
+    ensures serves { Serves (runs_as program_name.now machine_name.now run.now) (file_use F.held F.left F.name F.taken F.faults files.old files.new) (sink_use K.written K.faults sink.old sink.new) result }
     ensures untouched { IfErr result (λ f. f ≢ Fault.WriteFault → sink.new ≡ sink.old) }
     ensures rising { (which : Which) → F.faults files.old which ≤ F.faults files.new which }
     ensures sink_rising { K.faults sink.old ≤ K.faults sink.new }

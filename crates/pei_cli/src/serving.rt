@@ -38,7 +38,7 @@ pub fn plain<F: Files, K: Sink>(
     requires { (which : Which) → F.name files.old which ≡ None }
     ensures usage { (result ≡ Err Fault.Usage) ↔ (asked_of words.now ≡ None) }
     ensures idle { asked_of words.now ≡ None → (files.new ≡ files.old) × (sink.new ≡ sink.old) }
-    ensures serves { IfSome (asked_of words.now) (λ a. Serves a (file_use F.held F.name F.taken F.faults files.old files.new) (sink_use K.written K.faults sink.old sink.new) result) }
+    ensures serves { IfSome (asked_of words.now) (λ a. Serves a (file_use F.held F.left F.name F.taken F.faults files.old files.new) (sink_use K.written K.faults sink.old sink.new) result) }
     ensures untouched { IfErr result (λ f. f ≢ Fault.WriteFault → sink.new ≡ sink.old) }
     ensures unread { (n : ℕ) → asked_of words.now ≡ Some (Generates n) → files.new ≡ files.old }
     ensures rising { ((which : Which) → F.faults files.old which ≤ F.faults files.new which) × (K.faults sink.old ≤ K.faults sink.new) }

@@ -17,5 +17,5 @@ pub returns-in-Some-Run-clause-serves : goal.returns-in-Some-Run-clause-serves
 returns-in-Some-Run-clause-serves g c =
     let asks = rw c.in-Some-Run.field-0-is at c.in-Some-Run.ensures
     in of_run _ c.args.words.now c.as_str.result.now c.as_str-in-Some-Run.result.now c.in-Some-Run.run'
-    (λ a. Serves a (file_use g.F.Files.held g.F.Files.name g.F.Files.taken g.F.Files.faults c.args.files.now c.run_file.new.files) (sink_use g.K.Sink.written g.K.Sink.faults c.args.sink.now c.run_file.new.sink) c.run_file.result)
+    (λ a. Serves a (file_use g.F.Files.held g.F.Files.left g.F.Files.name g.F.Files.taken g.F.Files.faults c.args.files.now c.run_file.new.files) (sink_use g.K.Sink.written g.K.Sink.faults c.args.sink.now c.run_file.new.sink) c.run_file.result)
     asks.0 (search rules) (search rules) c.run_file.ensures.serves
