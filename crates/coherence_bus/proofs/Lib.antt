@@ -1,0 +1,11 @@
+pub mod Blocks
+pub mod Settling
+pub mod Standing
+pub mod Effects
+pub mod MessageEffects
+pub mod AccessEffects
+pub mod Searching
+pub mod Looks
+pub mod Starting
+pub mod WantsMade
+pub mod Driving

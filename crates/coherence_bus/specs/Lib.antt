@@ -1,0 +1,4 @@
+pub mod Hierarchy
+pub mod Inside
+pub mod Laws
+pub mod Wants
