@@ -9,6 +9,7 @@ use Rattle.pei_types.specs.declared.calls.EndKind.{EndKind}
 use Rattle.pei_types.specs.declared.calls.EndKind.TheVariants as ends
 use Rattle.pei_types.specs.declared.calls.TrapCause.{TrapCause}
 use Rattle.pei_types.specs.declared.calls.TrapCause.TheVariants as cause
+use Rattle.pei_types.specs.declared.machines.CoreConfig.{CoreConfig}
 use Rattle.pei_types.specs.declared.operations.Op.TheVariants as op
 use Rattle.pei_types.specs.Calls.{CallFits}
 use Rattle.pei_types.specs.Blocks.{word_of}
@@ -59,56 +60,56 @@ branch_asks : (b : Bool) (pc to : ℕ) (r : List ℕ) (blocks : ℕ) (s : CoreSt
 branch_asks true pc to r blocks s y h = subst (CallFits blocks) (calls_is _ y h) tt
 branch_asks false pc to r blocks s y h = subst (CallFits blocks) (calls_is _ y h) tt
 
-by_effect : (blocks : ℕ) (s : CoreState) (i : Instr) (y : Call) → next_of_step (step_of_effect s (effect_of blocks s.pc s.registers i)) ≡ Calls y → CallFits blocks y
-by_effect blocks s (instr.Ld rd ra n) y h =
+by_effect : (config : CoreConfig) (s : CoreState) (i : Instr) (y : Call) → next_of_step (step_of_effect s (effect_of config s.pc s.registers i)) ≡ Calls y → CallFits config.blocks y
+by_effect config s (instr.Ld rd ra n) y h =
     let addr = low_64_bits (slice_index s.registers ra + n)
-    in traps_or blocks s.pc s false None addr (call.Load s.pc addr) y (word_fits blocks addr) h
-by_effect blocks s (instr.St rv ra n) y h =
+    in traps_or config.blocks s.pc s false None addr (call.Load s.pc addr) y (word_fits config.blocks addr) h
+by_effect config s (instr.St rv ra n) y h =
     let addr = low_64_bits (slice_index s.registers ra + n)
-    in traps_or blocks s.pc s false None addr (call.Store s.pc addr (slice_index s.registers rv)) y (word_fits blocks addr) h
-by_effect blocks s (instr.Pinc ra n) y h =
+    in traps_or config.blocks s.pc s false None addr (call.Store s.pc addr (slice_index s.registers rv)) y (word_fits config.blocks addr) h
+by_effect config s (instr.Pinc ra n) y h =
     let addr = low_64_bits (slice_index s.registers ra + n)
-    in traps_or blocks s.pc s false None addr (pei_call (op.Inc (word_of addr)) addr (replicate 4 0)) y (λ f. (omega arith, block_fits false None blocks addr f)) h
-by_effect blocks s (instr.Pmin ra n rv) y h =
+    in traps_or config.blocks s.pc s false None addr (pei_call (op.Inc (word_of addr)) addr (replicate 4 0)) y (λ f. (omega arith, block_fits false None config.blocks addr f)) h
+by_effect config s (instr.Pmin ra n rv) y h =
     let addr = low_64_bits (slice_index s.registers ra + n)
-    in traps_or blocks s.pc s false None addr (pei_call (op.Min (word_of addr)) addr (slice_set (replicate 4 0) 0 (slice_index s.registers rv))) y (λ f. (omega arith, block_fits false None blocks addr f)) h
-by_effect blocks s (instr.Pprobe rd ra n rk) y h =
+    in traps_or config.blocks s.pc s false None addr (pei_call (op.Min (word_of addr)) addr (slice_set (replicate 4 0) 0 (slice_index s.registers rv))) y (λ f. (omega arith, block_fits false None config.blocks addr f)) h
+by_effect config s (instr.Pprobe rd ra n rk) y h =
     let addr = low_64_bits (slice_index s.registers ra + n)
-    in traps_or blocks s.pc s true None addr (pei_call op.Probe addr (slice_set (replicate 4 0) 0 (slice_index s.registers rk))) y (λ f. (tt, block_fits true None blocks addr f)) h
-by_effect blocks s (instr.Phist rd ra n rs) y h =
+    in traps_or config.blocks s.pc s true None addr (pei_call op.Probe addr (slice_set (replicate 4 0) 0 (slice_index s.registers rk))) y (λ f. (tt, block_fits true None config.blocks addr f)) h
+by_effect config s (instr.Phist rd ra n rs) y h =
     let addr = low_64_bits (slice_index s.registers ra + n)
     in let shift = slice_index s.registers rs
-    in traps_or blocks s.pc s true (Some shift) addr (pei_call op.Hist addr (slice_set (replicate 4 0) 0 shift)) y (λ f. (no_shift shift f.shifts, block_fits true (Some shift) blocks addr f)) h
-by_effect blocks s (instr.Pdot rd ra n rw') y h =
+    in traps_or config.blocks s.pc s true (Some shift) addr (pei_call op.Hist addr (slice_set (replicate 4 0) 0 shift)) y (λ f. (no_shift shift f.shifts, block_fits true (Some shift) config.blocks addr f)) h
+by_effect config s (instr.Pdot rd ra n rw') y h =
     let addr = low_64_bits (slice_index s.registers ra + n)
-    in traps_or blocks s.pc s true None addr (pei_call op.Dot addr _) y (λ f. (tt, block_fits true None blocks addr f)) h
-by_effect blocks s (instr.Beq ra rb to) y h = branch_asks _ s.pc to s.registers blocks s y h
-by_effect blocks s (instr.Bne ra rb to) y h = branch_asks _ s.pc to s.registers blocks s y h
-by_effect blocks s (instr.Bltu ra rb to) y h = branch_asks _ s.pc to s.registers blocks s y h
-by_effect blocks s (instr.Bgeu ra rb to) y h = branch_asks _ s.pc to s.registers blocks s y h
-by_effect blocks s instr.Pfence y h = subst (CallFits blocks) (calls_is _ y h) tt
-by_effect blocks s (instr.Out ra) y h = subst (CallFits blocks) (calls_is _ y h) tt
-by_effect blocks s instr.Halt y h = subst (CallFits blocks) (calls_is _ y h) tt
-by_effect blocks s _ y h = subst (CallFits blocks) (calls_is _ y h) tt
+    in traps_or config.blocks s.pc s true None addr (pei_call op.Dot addr _) y (λ f. (tt, block_fits true None config.blocks addr f)) h
+by_effect config s (instr.Beq ra rb to) y h = branch_asks _ s.pc to s.registers config.blocks s y h
+by_effect config s (instr.Bne ra rb to) y h = branch_asks _ s.pc to s.registers config.blocks s y h
+by_effect config s (instr.Bltu ra rb to) y h = branch_asks _ s.pc to s.registers config.blocks s y h
+by_effect config s (instr.Bgeu ra rb to) y h = branch_asks _ s.pc to s.registers config.blocks s y h
+by_effect config s instr.Pfence y h = subst (CallFits config.blocks) (calls_is _ y h) tt
+by_effect config s (instr.Out ra) y h = subst (CallFits config.blocks) (calls_is _ y h) tt
+by_effect config s instr.Halt y h = subst (CallFits config.blocks) (calls_is _ y h) tt
+by_effect config s _ y h = subst (CallFits config.blocks) (calls_is _ y h) tt
 
-by_instr : (blocks : ℕ) (s : CoreState) (o : Option Instr) (y : Call) → next_of_step (step_at blocks s o) ≡ Calls y → CallFits blocks y
-by_instr blocks s None y h = subst (CallFits blocks) (calls_is _ y h) tt
-by_instr blocks s (Some i) y h = by (busy_register s.waits i) h
+by_instr : (config : CoreConfig) (s : CoreState) (o : Option Instr) (y : Call) → next_of_step (step_at config s o) ≡ Calls y → CallFits config.blocks y
+by_instr config s None y h = subst (CallFits config.blocks) (calls_is _ y h) tt
+by_instr config s (Some i) y h = by (busy_register s.waits i) h
   where
-    by : (o : Option ℕ) → next_of_step (step_unless_busy blocks s i o) ≡ Calls y → CallFits blocks y
-    by None k = by_effect blocks s i y k
+    by : (o : Option ℕ) → next_of_step (step_unless_busy config s i o) ≡ Calls y → CallFits config.blocks y
+    by None k = by_effect config s i y k
     by (Some r) k = absurd (cc k)
 
-by_fuel : (p : Listing) (blocks : ℕ) (s : CoreState) (b : Bool) (y : Call) → next_of_step (if b then step_at blocks s (instr_at p s.pc) else Stops (Calls (call.End ends.Fuel))) ≡ Calls y → CallFits blocks y
-by_fuel p blocks s true y h = by_instr blocks s (instr_at p s.pc) y h
-by_fuel p blocks s false y h = subst (CallFits blocks) (calls_is _ y h) tt
+by_fuel : (p : Listing) (config : CoreConfig) (s : CoreState) (b : Bool) (y : Call) → next_of_step (if b then step_at config s (instr_at p s.pc) else Stops (Calls (call.End ends.Fuel))) ≡ Calls y → CallFits config.blocks y
+by_fuel p config s true y h = by_instr config s (instr_at p s.pc) y h
+by_fuel p config s false y h = subst (CallFits config.blocks) (calls_is _ y h) tt
 
-by_end : (p : Listing) (fuel blocks : ℕ) (s : CoreState) (ended raced : Option EndKind) (y : Call) → next_of_step (step_unless_over p fuel blocks s ended raced) ≡ Calls y → CallFits blocks y
-by_end p fuel blocks s (Some kind) raced y h = absurd (cc h)
-by_end p fuel blocks s None (Some race) y h = subst (CallFits blocks) (calls_is _ y h) tt
-by_end p fuel blocks s None None y h = by_fuel p blocks s (nat_lt s.retired fuel) y h
+by_end : (p : Listing) (config : CoreConfig) (s : CoreState) (ended raced : Option EndKind) (y : Call) → next_of_step (step_unless_over p config s ended raced) ≡ Calls y → CallFits config.blocks y
+by_end p config s (Some kind) raced y h = absurd (cc h)
+by_end p config s None (Some race) y h = subst (CallFits config.blocks) (calls_is _ y h) tt
+by_end p config s None None y h = by_fuel p config s (nat_lt s.retired config.fuel) y h
 
 -- What a core asks for fits the machine.
-pub asks_what_fits : (p : Listing) (fuel blocks : ℕ) (s : CoreState) (y : Call) → next_of p fuel blocks s ≡ Calls y → CallFits blocks y
-asks_what_fits p fuel blocks s y h =
-    let t = at_stop p fuel blocks s in by_end p fuel blocks t t.ended t.raced y h
+pub asks_what_fits : (p : Listing) (config : CoreConfig) (s : CoreState) (y : Call) → next_of p config s ≡ Calls y → CallFits config.blocks y
+asks_what_fits p config s y h =
+    let t = at_stop p config s in by_end p config t t.ended t.raced y h

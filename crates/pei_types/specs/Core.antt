@@ -14,6 +14,7 @@ use Rattle.pei_types.specs.declared.calls.EndKind.{EndKind}
 use Rattle.pei_types.specs.declared.calls.EndKind.TheVariants as ends
 use Rattle.pei_types.specs.declared.calls.TrapCause.{TrapCause}
 use Rattle.pei_types.specs.declared.calls.TrapCause.TheVariants as cause
+use Rattle.pei_types.specs.declared.machines.CoreConfig.{CoreConfig}
 use Rattle.pei_types.specs.declared.machines.MachineSpec.{MachineSpec}
 use Rattle.pei_types.specs.declared.events.Event.{Event}
 use Rattle.pei_types.specs.declared.events.EventKind.{EventKind}
@@ -142,46 +143,50 @@ branch taken pc to r = if taken then Goes to r else Goes (pc + 1) r
 abbrev pub pei_call : Op → ℕ → List ℕ → Call
 pei_call o addr operands = call.Pei o (block_of addr) (record { 0 = operands })
 
--- an instruction at pc, with registers r and so many blocks of memory
-abbrev pub effect_of : ℕ → ℕ → List ℕ → Instr → Effect
-effect_of blocks pc r (instr.Li rd n) = Goes (pc + 1) (slice_set r rd n)
-effect_of blocks pc r (instr.Add rd ra rb) = Goes (pc + 1) (slice_set r rd (low_64_bits (slice_index r ra + slice_index r rb)))
-effect_of blocks pc r (instr.Sub rd ra rb) = Goes (pc + 1) (slice_set r rd (low_64_bits (slice_index r ra + (2 ^ 64 - slice_index r rb))))
-effect_of blocks pc r (instr.Mul rd ra rb) = Goes (pc + 1) (slice_set r rd (low_64_bits (slice_index r ra * slice_index r rb)))
-effect_of blocks pc r (instr.And rd ra rb) = Goes (pc + 1) (slice_set r rd (bit_and (slice_index r ra) (slice_index r rb)))
-effect_of blocks pc r (instr.Or rd ra rb) = Goes (pc + 1) (slice_set r rd (bit_or (slice_index r ra) (slice_index r rb)))
-effect_of blocks pc r (instr.Xor rd ra rb) = Goes (pc + 1) (slice_set r rd (bit_xor (slice_index r ra) (slice_index r rb)))
-effect_of blocks pc r (instr.Addi rd ra n) = Goes (pc + 1) (slice_set r rd (low_64_bits (slice_index r ra + n)))
-effect_of blocks pc r (instr.Andi rd ra n) = Goes (pc + 1) (slice_set r rd (bit_and (slice_index r ra) n))
-effect_of blocks pc r (instr.Shl rd ra n) = Goes (pc + 1) (slice_set r rd (low_64_bits (slice_index r ra * 2 ^ (n % 64))))
-effect_of blocks pc r (instr.Shr rd ra n) = Goes (pc + 1) (slice_set r rd (slice_index r ra / 2 ^ (n % 64)))
-effect_of blocks pc r (instr.Ld rd ra n) =
-    let addr = low_64_bits (slice_index r ra + n) in asks_unless (operand_trap false None addr blocks) pc (call.Load pc addr)
-effect_of blocks pc r (instr.St rv ra n) =
-    let addr = low_64_bits (slice_index r ra + n) in asks_unless (operand_trap false None addr blocks) pc (call.Store pc addr (slice_index r rv))
-effect_of blocks pc r (instr.Beq ra rb to) = branch (slice_index r ra == slice_index r rb) pc to r
-effect_of blocks pc r (instr.Bne ra rb to) = branch (not (slice_index r ra == slice_index r rb)) pc to r
-effect_of blocks pc r (instr.Bltu ra rb to) = branch (nat_lt (slice_index r ra) (slice_index r rb)) pc to r
-effect_of blocks pc r (instr.Bgeu ra rb to) = branch (not (nat_lt (slice_index r ra) (slice_index r rb))) pc to r
-effect_of blocks pc r (instr.Jmp to) = Goes to r
-effect_of blocks pc r (instr.Pinc ra n) =
+-- what a machine gives its cores: how much each may retire, and how many blocks memory has
+abbrev pub core_config : MachineSpec → CoreConfig
+core_config m = record { fuel = m.fuel; blocks = m.blocks }
+
+-- an instruction at pc, with registers r
+abbrev pub effect_of : CoreConfig → ℕ → List ℕ → Instr → Effect
+effect_of config pc r (instr.Li rd n) = Goes (pc + 1) (slice_set r rd n)
+effect_of config pc r (instr.Add rd ra rb) = Goes (pc + 1) (slice_set r rd (low_64_bits (slice_index r ra + slice_index r rb)))
+effect_of config pc r (instr.Sub rd ra rb) = Goes (pc + 1) (slice_set r rd (low_64_bits (slice_index r ra + (2 ^ 64 - slice_index r rb))))
+effect_of config pc r (instr.Mul rd ra rb) = Goes (pc + 1) (slice_set r rd (low_64_bits (slice_index r ra * slice_index r rb)))
+effect_of config pc r (instr.And rd ra rb) = Goes (pc + 1) (slice_set r rd (bit_and (slice_index r ra) (slice_index r rb)))
+effect_of config pc r (instr.Or rd ra rb) = Goes (pc + 1) (slice_set r rd (bit_or (slice_index r ra) (slice_index r rb)))
+effect_of config pc r (instr.Xor rd ra rb) = Goes (pc + 1) (slice_set r rd (bit_xor (slice_index r ra) (slice_index r rb)))
+effect_of config pc r (instr.Addi rd ra n) = Goes (pc + 1) (slice_set r rd (low_64_bits (slice_index r ra + n)))
+effect_of config pc r (instr.Andi rd ra n) = Goes (pc + 1) (slice_set r rd (bit_and (slice_index r ra) n))
+effect_of config pc r (instr.Shl rd ra n) = Goes (pc + 1) (slice_set r rd (low_64_bits (slice_index r ra * 2 ^ (n % 64))))
+effect_of config pc r (instr.Shr rd ra n) = Goes (pc + 1) (slice_set r rd (slice_index r ra / 2 ^ (n % 64)))
+effect_of config pc r (instr.Ld rd ra n) =
+    let addr = low_64_bits (slice_index r ra + n) in asks_unless (operand_trap false None addr config.blocks) pc (call.Load pc addr)
+effect_of config pc r (instr.St rv ra n) =
+    let addr = low_64_bits (slice_index r ra + n) in asks_unless (operand_trap false None addr config.blocks) pc (call.Store pc addr (slice_index r rv))
+effect_of config pc r (instr.Beq ra rb to) = branch (slice_index r ra == slice_index r rb) pc to r
+effect_of config pc r (instr.Bne ra rb to) = branch (not (slice_index r ra == slice_index r rb)) pc to r
+effect_of config pc r (instr.Bltu ra rb to) = branch (nat_lt (slice_index r ra) (slice_index r rb)) pc to r
+effect_of config pc r (instr.Bgeu ra rb to) = branch (not (nat_lt (slice_index r ra) (slice_index r rb))) pc to r
+effect_of config pc r (instr.Jmp to) = Goes to r
+effect_of config pc r (instr.Pinc ra n) =
     let addr = low_64_bits (slice_index r ra + n)
-    in asks_unless (operand_trap false None addr blocks) pc (pei_call (op.Inc (word_of addr)) addr (replicate 4 0))
-effect_of blocks pc r (instr.Pmin ra n rv) =
+    in asks_unless (operand_trap false None addr config.blocks) pc (pei_call (op.Inc (word_of addr)) addr (replicate 4 0))
+effect_of config pc r (instr.Pmin ra n rv) =
     let addr = low_64_bits (slice_index r ra + n)
-    in asks_unless (operand_trap false None addr blocks) pc (pei_call (op.Min (word_of addr)) addr (slice_set (replicate 4 0) 0 (slice_index r rv)))
-effect_of blocks pc r (instr.Pprobe rd ra n rk) =
+    in asks_unless (operand_trap false None addr config.blocks) pc (pei_call (op.Min (word_of addr)) addr (slice_set (replicate 4 0) 0 (slice_index r rv)))
+effect_of config pc r (instr.Pprobe rd ra n rk) =
     let addr = low_64_bits (slice_index r ra + n)
-    in asks_unless (operand_trap true None addr blocks) pc (pei_call op.Probe addr (slice_set (replicate 4 0) 0 (slice_index r rk)))
-effect_of blocks pc r (instr.Phist rd ra n rs) =
+    in asks_unless (operand_trap true None addr config.blocks) pc (pei_call op.Probe addr (slice_set (replicate 4 0) 0 (slice_index r rk)))
+effect_of config pc r (instr.Phist rd ra n rs) =
     let addr = low_64_bits (slice_index r ra + n)
-    in asks_unless (operand_trap true (Some (slice_index r rs)) addr blocks) pc (pei_call op.Hist addr (slice_set (replicate 4 0) 0 (slice_index r rs)))
-effect_of blocks pc r (instr.Pdot rd ra n rw) =
+    in asks_unless (operand_trap true (Some (slice_index r rs)) addr config.blocks) pc (pei_call op.Hist addr (slice_set (replicate 4 0) 0 (slice_index r rs)))
+effect_of config pc r (instr.Pdot rd ra n rw) =
     let addr = low_64_bits (slice_index r ra + n)
-    in asks_unless (operand_trap true None addr blocks) pc (pei_call op.Dot addr (map (λ k. slice_index r (rw + k)) (range_with_len 0 4)))
-effect_of blocks pc r instr.Pfence = Asks call.Fence
-effect_of blocks pc r (instr.Out ra) = Asks (call.Out (slice_index r ra))
-effect_of blocks pc r instr.Halt = Asks (call.End ends.Halt)
+    in asks_unless (operand_trap true None addr config.blocks) pc (pei_call op.Dot addr (map (λ k. slice_index r (rw + k)) (range_with_len 0 4)))
+effect_of config pc r instr.Pfence = Asks call.Fence
+effect_of config pc r (instr.Out ra) = Asks (call.Out (slice_index r ra))
+effect_of config pc r instr.Halt = Asks (call.End ends.Halt)
 
 -- one step of a core: a retired instruction, or what the core stops at
 pub data CoreStep : Type 0 where
@@ -192,38 +197,38 @@ abbrev pub step_of_effect : CoreState → Effect → CoreStep
 step_of_effect s (Goes pc registers) = Retires (record s { pc = pc; registers = registers; retired = s.retired + 1 })
 step_of_effect s (Asks x) = Stops (Calls x)
 
-abbrev pub step_unless_busy : ℕ → CoreState → Instr → Option ℕ → CoreStep
-step_unless_busy blocks s i None = step_of_effect s (effect_of blocks s.pc s.registers i)
-step_unless_busy blocks s i (Some r) = Stops (Busy r (record { core = s.core; seq = awaited (wait_at s.waits r) }))
+abbrev pub step_unless_busy : CoreConfig → CoreState → Instr → Option ℕ → CoreStep
+step_unless_busy config s i None = step_of_effect s (effect_of config s.pc s.registers i)
+step_unless_busy config s i (Some r) = Stops (Busy r (record { core = s.core; seq = awaited (wait_at s.waits r) }))
 
-abbrev pub step_at : ℕ → CoreState → Option Instr → CoreStep
-step_at blocks s None = Stops (Calls (call.End (ends.Trap s.pc cause.Pc)))
-step_at blocks s (Some i) = step_unless_busy blocks s i (busy_register s.waits i)
+abbrev pub step_at : CoreConfig → CoreState → Option Instr → CoreStep
+step_at config s None = Stops (Calls (call.End (ends.Trap s.pc cause.Pc)))
+step_at config s (Some i) = step_unless_busy config s i (busy_register s.waits i)
 
-abbrev pub step_unless_over : Listing → ℕ → ℕ → CoreState → Option EndKind → Option EndKind → CoreStep
-step_unless_over p fuel blocks s (Some kind) raced = Stops (Ended kind)
-step_unless_over p fuel blocks s None (Some race) = Stops (Calls (call.End race))
-step_unless_over p fuel blocks s None None =
-    if nat_lt s.retired fuel then step_at blocks s (instr_at p s.pc) else Stops (Calls (call.End ends.Fuel))
+abbrev pub step_unless_over : Listing → CoreConfig → CoreState → Option EndKind → Option EndKind → CoreStep
+step_unless_over p config s (Some kind) raced = Stops (Ended kind)
+step_unless_over p config s None (Some race) = Stops (Calls (call.End race))
+step_unless_over p config s None None =
+    if nat_lt s.retired config.fuel then step_at config s (instr_at p s.pc) else Stops (Calls (call.End ends.Fuel))
 
-abbrev pub core_step : Listing → ℕ → ℕ → CoreState → CoreStep
-core_step p fuel blocks s = step_unless_over p fuel blocks s s.ended s.raced
+abbrev pub core_step : Listing → CoreConfig → CoreState → CoreStep
+core_step p config s = step_unless_over p config s s.ended s.raced
 
 -- the core where it stops next, after at most n instructions
-abbrev pub after_steps : Listing → ℕ → ℕ → ℕ → CoreState → CoreState
-after_steps p fuel blocks zero s = s
-after_steps p fuel blocks (suc n) s = elim (core_step p fuel blocks s) [ Retires t ↦ after_steps p fuel blocks n t | Stops x ↦ s ]
+abbrev pub after_steps : Listing → CoreConfig → ℕ → CoreState → CoreState
+after_steps p config zero s = s
+after_steps p config (suc n) s = elim (core_step p config s) [ Retires t ↦ after_steps p config n t | Stops x ↦ s ]
 
 -- The core where it stops next: with `fuel` instructions retired every core stops.
-abbrev pub at_stop : Listing → ℕ → ℕ → CoreState → CoreState
-at_stop p fuel blocks s = after_steps p fuel blocks (suc (fuel - s.retired)) s
+abbrev pub at_stop : Listing → CoreConfig → CoreState → CoreState
+at_stop p config s = after_steps p config (suc (config.fuel - s.retired)) s
 
 abbrev pub next_of_step : CoreStep → CoreNext
 next_of_step (Retires s) = Calls (call.End ends.Fuel)
 next_of_step (Stops x) = x
 
-abbrev pub next_of : Listing → ℕ → ℕ → CoreState → CoreNext
-next_of p fuel blocks s = next_of_step (core_step p fuel blocks (at_stop p fuel blocks s))
+abbrev pub next_of : Listing → CoreConfig → CoreState → CoreNext
+next_of p config s = next_of_step (core_step p config (at_stop p config s))
 
 -- the core behind the instruction whose call was answered
 abbrev pub after_retiring : CoreState → List ℕ → List (Option Wait) → CoreState
@@ -277,14 +282,14 @@ after_answer p s _ = s
 abbrev pub events_of : CoreId → List Event → List Event
 events_of c events = filter (λ e. same_core e.actor.core c) events
 
-abbrev pub core_after : Listing → ℕ → ℕ → CoreState → List Event → CoreState
-core_after p fuel blocks s [] = s
-core_after p fuel blocks s (e ∷ events) = core_after p fuel blocks (after_answer p (at_stop p fuel blocks s) e.kind) events
+abbrev pub core_after : Listing → CoreConfig → CoreState → List Event → CoreState
+core_after p config s [] = s
+core_after p config s (e ∷ events) = core_after p config (after_answer p (at_stop p config s) e.kind) events
 
--- What core c of a machine with this fuel and so many blocks does next, after these events of its own.
-abbrev pub core_next : Listing → Contents → ℕ → ℕ → CoreId → List Event → CoreNext
-core_next p image fuel blocks c events = next_of p fuel blocks (core_after p fuel blocks (core_at_start image c) events)
+-- What core c of a machine that gives its cores this does next, after these events of its own.
+abbrev pub core_next : Listing → Contents → CoreConfig → CoreId → List Event → CoreNext
+core_next p image config c events = next_of p config (core_after p config (core_at_start image c) events)
 
 -- what core c does next after all these events of the machine
 abbrev pub next_of_core : Listing → MachineSpec → Contents → List Event → CoreId → CoreNext
-next_of_core p m image events c = core_next p image m.fuel m.blocks c (events_of c events)
+next_of_core p m image events c = core_next p image (core_config m) c (events_of c events)

@@ -24,7 +24,7 @@ pub use identifiers::{Actor, Block, BlockNo, CoreId, Lane, OutOfMemory, PeiId};
 pub use inflight_looks::{PeiLook, Phase, StallCause};
 pub use instructions::{Ask, Instr};
 pub use lines::{CopyLine, HeldLine};
-pub use machines::{MachineSpec, Policy3};
+pub use machines::{CoreConfig, MachineSpec, Policy3};
 pub use operations::{Letter, Mark, Mode, Op, Operands, Place, Reply};
 pub use programs::{Image, Program};
 

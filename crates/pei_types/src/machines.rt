@@ -1,7 +1,7 @@
 //! The sizes of a machine.
 
 ghost use Rattle.pei_types.specs.Limits.{IsWithin, IsPowerOfTwo};
-ghost use Rattle.std.specs.Prelude.{◌≤◌};
+ghost use Rattle.std.specs.Prelude.{◌≡◌, ◌≤◌};
 
 /// How PEIs are placed: by the locality monitor, all at the host, or all in memory.
 #[derive(Clone, Copy, PartialEq, Eq, Debug)]
@@ -46,4 +46,26 @@ pub struct MachineSpec {
     ghost banks_in_limits: { IsWithin 1 1 banks },
     ghost fuel_in_limits: { IsWithin 1 1000000 fuel },
     ghost events_in_limits: { IsWithin 64 1048576 events },
+}
+
+/// What a machine gives each of its cores, beside the program and the image: a core retires up to `fuel` instructions, and
+/// memory has `blocks` blocks of 64 bytes (to 65,536).
+#[derive(Clone, Copy, PartialEq, Eq, Debug)]
+pub struct CoreConfig {
+    pub fuel: u32,
+    pub blocks: u32,
+}
+
+impl MachineSpec {
+    ghost use Rattle.pei_types.specs.Core.{core_config};
+
+    /// What the machine gives its cores.
+    pub fn core_config(&self) -> CoreConfig
+        ensures { result ≡ core_config self.now }
+    {
+        CoreConfig {
+            fuel: self.fuel,
+            blocks: self.blocks,
+        }
+    }
 }
