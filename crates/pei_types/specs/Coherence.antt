@@ -90,19 +90,26 @@ letter_of m s c b = letter_in (find (is_line_of b) (l1_set m s c b))
 abbrev pub mark_of : MachineSpec → State → BlockNo → Mark
 mark_of m s b = mark_in (find (is_llc_line_of b) (llc_set m s b))
 
+-- whether a core has no copy
 abbrev pub is_i : Letter → Bool
 is_i letter.I = true
-is_i _ = false
+is_i letter.S = false
+is_i letter.E = false
+is_i letter.M = false
 
-abbrev pub is_m : Letter → Bool
-is_m letter.M = true
-is_m _ = false
+-- whether a copy is ahead of the last-level cache, which has to take its content back
+abbrev pub is_ahead : Letter → Bool
+is_ahead letter.I = false
+is_ahead letter.S = false
+is_ahead letter.E = false
+is_ahead letter.M = true
 
 -- whether a letter lets its core write
 abbrev pub is_owned : Letter → Bool
-is_owned letter.M = true
+is_owned letter.I = false
+is_owned letter.S = false
 is_owned letter.E = true
-is_owned _ = false
+is_owned letter.M = true
 
 abbrev pub is_absent : Mark → Bool
 is_absent mark.Absent = true
@@ -123,12 +130,12 @@ cores_of m = map (λ c. record { 0 = c }) (range_with_len 0 m.cores)
 abbrev pub letters_of : MachineSpec → State → BlockNo → List Letter
 letters_of m s b = map (λ c. letter_of m s c b) (cores_of m)
 
--- whether no core has the block, and whether none may write it
+-- whether no core has the block, and whether none may write it or is ahead with it
 abbrev pub none_has : MachineSpec → State → BlockNo → Bool
 none_has m s b = list_all is_i (letters_of m s b)
 
 abbrev pub none_owns : MachineSpec → State → BlockNo → Bool
-none_owns m s b = list_all (λ l. not (is_owned l)) (letters_of m s b)
+none_owns m s b = list_all (λ l. not (is_owned l || is_ahead l)) (letters_of m s b)
 
 -- the same of all cores but one
 abbrev pub no_other_has : MachineSpec → State → CoreId → BlockNo → Bool
@@ -235,9 +242,9 @@ with_llc_line m s b = with_llc_set m s b (λ set. record { block = b; mark = mar
 abbrev pub without_llc_line : MachineSpec → State → BlockNo → State
 without_llc_line m s b = with_llc_set m s b (without (is_llc_line_of b))
 
--- from M the last-level cache takes the content
+-- from a copy that is ahead the last-level cache takes the content
 abbrev pub after_taking_back : MachineSpec → State → BlockNo → Letter → State
-after_taking_back m s b l = if is_m l then with_llc_mark m s b mark.Dirty else s
+after_taking_back m s b l = if is_ahead l then with_llc_mark m s b mark.Dirty else s
 
 abbrev pub after_invalidating : MachineSpec → State → CoreId → BlockNo → State
 after_invalidating m s c b = without_l1_line m (after_taking_back m s b (letter_of m s c b)) c b
