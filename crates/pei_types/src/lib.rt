@@ -15,6 +15,7 @@ mod lines;
 mod machines;
 mod operations;
 mod programs;
+mod stamps;
 
 pub use calls::{Call, EndKind, TrapCause};
 pub use clauses::Clause;
@@ -27,5 +28,6 @@ pub use lines::{CopyLine, HeldLine};
 pub use machines::{CoreConfig, MachineSpec, Policy3};
 pub use operations::{Letter, Mark, Mode, Op, Operands, Place, Reply};
 pub use programs::{Image, Program};
+pub use stamps::{Banks, Stamped};
 
 pub mod evidence;
