@@ -12,7 +12,7 @@ use Rattle.pei_types.specs.declared.operations.Operands.{Operands}
 use Rattle.pei_types.specs.declared.events.EventKind.TheVariants as event
 use Rattle.pei_types.specs.declared.machines.MachineSpec.{MachineSpec}
 use Rattle.pei_types.specs.Blocks.{block_of}
-use Rattle.pei_types.specs.Coherence.{State, cores_of, letter_of, mark_of, is_absent, is_i, is_m, is_owned, with_l1_front, with_l1_touch}
+use Rattle.pei_types.specs.Coherence.{State, cores_of, letter_of, mark_of, is_absent, is_i, is_ahead, is_owned, with_l1_front, with_l1_touch}
 use Rattle.pei_types.specs.Operation.{is_writer, block_after}
 use Rattle.pei_types.specs.Recency.{to_front, without}
 use Rattle.pei_types.proofs.Lists.{found_passes}
@@ -36,7 +36,7 @@ use Rattle.coherence_bus.proofs.Settling.{by_access, settled}
 pub block_at_start : (b : BlockNo) → block_of (64 * b.0) ≡ b
 block_at_start b = ap (λ n. record { 0 = n }) (omega arith)
 
-m_has : (l : Letter) → is_m l ≡ true → is_i l ≡ false
+m_has : (l : Letter) → is_ahead l ≡ true → is_i l ≡ false
 m_has letter.M h = refl
 m_has letter.E h = refl
 m_has letter.S h = refl
@@ -68,11 +68,11 @@ module _ (laws : Laws) (i : Inside) (kept : IsKept i) where
   -- ---- what is seen
 
   -- the core with a modified copy has a copy
-  pub modified_has : (c : CoreId) (b : BlockNo) → find (λ d. is_m (letter_of i.machine (bare_state i.machine (held i)) d b)) (cores_of i.machine) ≡ Some c → is_i (letter_of i.machine (bare_state i.machine (held i)) c b) ≡ false
-  modified_has c b is = m_has (letter_of m s c b) (found_passes (λ d. is_m (letter_of m s d b)) (cores_of m) c is)
+  pub modified_has : (c : CoreId) (b : BlockNo) → find (λ d. is_ahead (letter_of i.machine (bare_state i.machine (held i)) d b)) (cores_of i.machine) ≡ Some c → is_i (letter_of i.machine (bare_state i.machine (held i)) c b) ≡ false
+  modified_has c b is = m_has (letter_of m s c b) (found_passes (λ d. is_ahead (letter_of m s d b)) (cores_of m) c is)
 
   -- without one, the line or the block of the vault is what is seen
-  pub peeked : (b : BlockNo) (t : Bool) → b.0 < i.machine.blocks → find (λ d. is_m (letter_of i.machine (bare_state i.machine (held i)) d b)) (cores_of i.machine) ≡ None → is_absent (shared.mark_of i.llc b) ≡ t
+  pub peeked : (b : BlockNo) (t : Bool) → b.0 < i.machine.blocks → find (λ d. is_ahead (letter_of i.machine (bare_state i.machine (held i)) d b)) (cores_of i.machine) ≡ None → is_absent (shared.mark_of i.llc b) ≡ t
       → (if t then vaults.content_of i.vaults b else shared.content_of i.llc b) ≡ content_of (shown i) b
   peeked b t within none absent =
       by_mark t ∙ ap (λ u. if u then vaults.content_of i.vaults b else held_line m k b) (sym absent ∙ ap is_absent (sym (mark_is laws i kept b)))

@@ -16,7 +16,7 @@ use Rattle.pei_types.specs.declared.lines.CopyLine.{CopyLine}
 use Rattle.pei_types.specs.declared.lines.HeldLine.{HeldLine}
 use Rattle.pei_types.specs.declared.machines.MachineSpec.{MachineSpec}
 use Rattle.pei_types.specs.Blocks.{l1_set_of, llc_set_of}
-use Rattle.pei_types.specs.Coherence.{State, letter_of, mark_of, is_i, is_m, is_owned, is_absent, is_clean, is_dirty, none_has, none_owns, no_other_has, no_other_owns, is_sealed, writer_is_sealed, llc_set, l1_set, is_line_of, is_llc_line_of, after_invalidating, after_downgrading}
+use Rattle.pei_types.specs.Coherence.{State, letter_of, mark_of, is_i, is_ahead, is_owned, is_absent, is_clean, is_dirty, none_has, none_owns, no_other_has, no_other_owns, is_sealed, writer_is_sealed, llc_set, l1_set, is_line_of, is_llc_line_of, after_invalidating, after_downgrading}
 use Rattle.pei_types.specs.Guard.{guard, l1_has_room, llc_has_room}
 use Rattle.pei_types.specs.Recency.{change_at, without, to_front, victim}
 use Rattle.pei_types.proofs.Identities.{same_block_is}
@@ -229,7 +229,7 @@ module _ (laws : Laws) (i : Inside) (kept : IsKept i) where
       (ap (λ (x : shared.Cache). x.sets) lines, ap (λ (x : shared.Cache). x.ways) lines, within_same m k (holdings i.caches.items next i.vaults) (ap (λ (x : shared.Cache). x.sets) lines) kept.coheres.within)
 
   -- one cache has another set, and the last-level cache has taken a modified copy back
-  taken_same : (c : CoreId) (b : BlockNo) (f : List CopyLine → List CopyLine) (caches : List private.Cache) (next : shared.Cache) (t : Bool) → is_m (letter_of i.machine (bare_state i.machine (held i)) c b) ≡ t
+  taken_same : (c : CoreId) (b : BlockNo) (f : List CopyLine → List CopyLine) (caches : List private.Cache) (next : shared.Cache) (t : Bool) → is_ahead (letter_of i.machine (bare_state i.machine (held i)) c b) ≡ t
       → map (λ (x : private.Cache). x.sets) caches ≡ change_at (map (λ (x : private.Cache). x.sets) i.caches.items) c.0 (λ sets. change_at sets (l1_set_of i.machine b) f)
       → next.sets ≡ (if t then change_at i.llc.sets (llc_set_of i.machine b) (map (made_dirty b (held_copy i.machine (held i) c b))) else i.llc.sets)
       → holdings caches next i.vaults ≡ with_copy_set i.machine (held_after_taking i.machine (held i) c b (letter_of i.machine (bare_state i.machine (held i)) c b)) c b f
@@ -242,7 +242,7 @@ module _ (laws : Laws) (i : Inside) (kept : IsKept i) where
       by_case false is = λ j. record { l1 = copies j; llc = is j; vault = λ e. content_of i.vaults e; buffer = λ id. record { 0 = [] } }
 
   pub taken : (c : CoreId) (v w d : private.Cache) (b : BlockNo) (next : shared.Cache) (t : Bool) → c.0 < i.machine.cores → v ≡ get_or i.caches.items c.0 d → is_i (letter_of i.machine (bare_state i.machine (held i)) c b) ≡ false
-      → is_m (letter_of i.machine (bare_state i.machine (held i)) c b) ≡ t → w ≡ record (private.without_copy v b) { slots = w.slots } → next ≡ (if t then shared.with_dirty i.llc b (private.content_of v b) else i.llc)
+      → is_ahead (letter_of i.machine (bare_state i.machine (held i)) c b) ≡ t → w ≡ record (private.without_copy v b) { slots = w.slots } → next ≡ (if t then shared.with_dirty i.llc b (private.content_of v b) else i.llc)
       → Comes i.machine (slice_set i.caches.items c.0 w) next i.vaults (with_caches (shown i) (after_invalidating i.machine (bare_state i.machine (held i)) c b))
   taken c v w d b next t own is there modified lines back =
       let copies = caches_after c v w d b (without (private.is_copy_of b)) own is (ap (λ (x : private.Cache). x.ways) lines) (ap (λ (x : private.Cache). x.sets) lines)
@@ -253,7 +253,7 @@ module _ (laws : Laws) (i : Inside) (kept : IsKept i) where
       in record { sizes = record { l1_ways = copies.1; llc_ways = line.1 ∙ kept.sizes.llc_ways; blocks = kept.sizes.blocks }; coheres = by.0; shows = by.1 }
 
   pub lowered : (c : CoreId) (v w d : private.Cache) (b : BlockNo) (next : shared.Cache) (t : Bool) → c.0 < i.machine.cores → v ≡ get_or i.caches.items c.0 d → is_owned (letter_of i.machine (bare_state i.machine (held i)) c b) ≡ true
-      → is_m (letter_of i.machine (bare_state i.machine (held i)) c b) ≡ t → w ≡ private.with_shared v b → next ≡ (if t then shared.with_dirty i.llc b (private.content_of v b) else i.llc)
+      → is_ahead (letter_of i.machine (bare_state i.machine (held i)) c b) ≡ t → w ≡ private.with_shared v b → next ≡ (if t then shared.with_dirty i.llc b (private.content_of v b) else i.llc)
       → Comes i.machine (slice_set i.caches.items c.0 w) next i.vaults (with_caches (shown i) (after_downgrading i.machine (bare_state i.machine (held i)) c b))
   lowered c v w d b next t own is owned modified lines back =
       let shares : List CopyLine → List CopyLine = map (λ x. if private.is_copy_of b x then record { block = x.block; letter = letter.S; content = x.content } else x)
@@ -324,4 +324,4 @@ module _ (laws : Laws) (i : Inside) (kept : IsKept i) where
 
   -- a shared copy has the line's content
   pub shared_content : (c : CoreId) (v d : private.Cache) (b : BlockNo) → c.0 < i.machine.cores → v ≡ get_or i.caches.items c.0 d → letter_of i.machine (bare_state i.machine (held i)) c b ≡ letter.S → private.content_of v b ≡ held_line i.machine (held i) b
-  shared_content c v d b own is letter = copy_here c v d b own is ∙ (kept.coheres.holds.current b).other_copy c (ap is_i letter) (ap is_m letter)
+  shared_content c v d b own is letter = copy_here c v d b own is ∙ (kept.coheres.holds.current b).other_copy c (ap is_i letter) (ap is_ahead letter)

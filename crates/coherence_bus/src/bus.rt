@@ -1,7 +1,7 @@
 //! The bus, and what is seen of memory.
 
 ghost use Rattle.std.specs.Prelude.{◌≡◌, ◌<◌, ◌*◌, IfOk, length, map, find, replicate};
-ghost use Rattle.pei_types.specs.Coherence.{cores_of, is_absent, is_m, letter_of};
+ghost use Rattle.pei_types.specs.Coherence.{cores_of, is_absent, is_ahead, letter_of};
 ghost use Rattle.coherence_laws.specs.Invariants.{Invariants};
 ghost use Rattle.mesi_l1.specs.Cache.{empty_cache};
 ghost use Rattle.pei_types.specs.Limits.{IsWithin};
@@ -58,7 +58,7 @@ fn empty_caches(alloc: Global, cores: u8, sets: u32, ways: u32) -> Result<Vec<L1
 
 /// Whether a copy with this letter is ahead of the last-level cache.
 pub(crate) fn is_modified(letter: Letter) -> bool
-    ensures { result ≡ is_m letter }
+    ensures { result ≡ is_ahead letter }
 {
     matches!(letter, Letter::M)
 }
@@ -111,7 +111,7 @@ impl Bus {
 
     /// The core whose copy of a block is modified.
     fn modifier(&self, b: BlockNo) -> Option<CoreId>
-        ensures { result ≡ find (λ c. is_m (letter_of self.now.machine (state_of self.now) c b)) (cores_of self.now.machine) }
+        ensures { result ≡ find (λ c. is_ahead (letter_of self.now.machine (state_of self.now) c b)) (cores_of self.now.machine) }
     {
         laws();
         for core in 0..self.machine.cores {

@@ -1,5 +1,5 @@
 -- Laws of the state, which the functions of `laws` prove.
-use Rattle.std.specs.Prelude.{◌≡◌, ℕ, true, false, Bool, IsTrue, List, [], ◌∷◌, ◌++◌, length, filter, ◌≤◌, Some, None, ⊤}
+use Rattle.std.specs.Prelude.{◌≡◌, ℕ, true, false, Bool, ◌&&◌, IsTrue, List, [], ◌∷◌, ◌++◌, length, filter, ◌≤◌, ◌<◌, Option, Some, None, ⊤, slice_index, slice_set}
 use Rattle.pei_types.specs.declared.identifiers.Actor.{Actor}
 use Rattle.pei_types.specs.declared.calls.Call.{Call}
 use Rattle.pei_types.specs.declared.identifiers.Block.{Block}
@@ -16,9 +16,9 @@ use Rattle.pei_types.specs.declared.events.Event.{Event}
 use Rattle.pei_types.specs.declared.events.EventKind.{EventKind}
 use Rattle.pei_types.specs.declared.machines.MachineSpec.{MachineSpec}
 use Rattle.pei_types.specs.declared.events.EventKind.TheVariants as event
-use Rattle.pei_types.specs.Blocks.{block_of, same_core, same_lane}
+use Rattle.pei_types.specs.Blocks.{block_of, same_core, same_lane, same_pei}
 use Rattle.pei_types.specs.Calls.{is_actor_of}
-use Rattle.pei_types.specs.Coherence.{State, start_state, next_state, state_after, look_in, look_of, entry_is_taken, conflict, letter_of, mark_of, is_i, is_owned, is_phase, pei_id, with_l1_front}
+use Rattle.pei_types.specs.Coherence.{State, start_state, next_state, state_after, look_in, look_of, entry_is_taken, conflict, letter_of, mark_of, is_i, is_owned, is_phase, pei_id, in_phase, with_l1_front}
 use Rattle.pei_types.specs.Guard.{guard}
 use Rattle.pei_types.specs.Legal.{Legal, MachineLegal}
 use Rattle.pei_types.specs.Next.{Makes, call_row, lane_row}
@@ -53,6 +53,15 @@ pub record KeepsInvariants : Type 0 where
   pub alone : (m : MachineSpec) (image : Contents) (journal : List Event) → MachineLegal m image journal → Invariants m (state_after m journal)
   pub caches : (m : MachineSpec) (s : State) → Invariants m s → Invariants m (caches_alone m s.l1 s.llc)
 
+-- What keeps the invariants beside the guards, where a state has but some of the machine's PEIs: the counts of issues may be
+-- greater; a PEI may be added that has not entered, with a name and a lane of its own; one may enter in whatever turn
+-- where its entry is free; and fences may change.
+pub record KeepsParts : Type 0 where
+  pub counts : (m : MachineSpec) (s : State) (counts : List ℕ) → Invariants m s → length counts ≡ m.cores → ((c : ℕ) → slice_index s.issues c ≤ slice_index counts c) → Invariants m (record s { issues = counts })
+  pub added : (m : MachineSpec) (s : State) (new : PeiLook) (counts : List ℕ) → Invariants m s → new.id.core.0 < m.cores → 0 < new.lane.0 → new.lane.0 ≤ m.buffer → Each (λ p. same_pei p.id new.id ≡ false) s.peis → Each (λ p. (same_core p.id.core new.id.core && same_lane p.lane new.lane) ≡ false) s.peis → new.phase ≡ phase.Issued → length counts ≡ m.cores → ((c : ℕ) → slice_index s.issues c ≤ slice_index counts c) → new.id.seq < slice_index counts new.id.core.0 → Invariants m (record s { peis = s.peis ++ new ∷ []; issues = counts })
+  pub entered : (m : MachineSpec) (s : State) (id : PeiId) (p : PeiLook) → Invariants m s → look_of s id ≡ Some p → is_phase p.phase phase.Issued ≡ true → entry_is_taken m s p ≡ false → Invariants m (in_phase s id phase.Entered)
+  pub fenced : (m : MachineSpec) (s : State) (c : CoreId) (fence : Option (List PeiId)) → Invariants m s → Invariants m (record s { fences = slice_set s.fences c.0 fence })
+
 -- a load or a store races with no PEI on its way
 abbrev pub IsNoRace : State → EventKind → Type 0
 IsNoRace s (event.Load addr value) = conflict s (block_of addr) false ≡ None
@@ -82,11 +91,13 @@ pub record TurnsAreAllowed : Type 0 where
   pub replies : (x : CoreNext) (m : MachineSpec) (image : Contents) (journal : List Event) (a : Actor) (granted : Bool) (kind : EventKind) → PeisAreAsIssued m journal → turn_of x m image journal a granted ≡ Some (Makes kind) → RepliesRightly m image journal a kind
 
 -- Contents that hold some memory, in a state with the invariants: an event that meets its guard leaves contents that
--- hold that memory after the event, where a message changes nothing, and no buffer is out of date. What is seen of a
+-- hold that memory after the event, where a message changes nothing, and no buffer is out of date. So they do after an issue
+-- into any lane, under any name. What is seen of a
 -- block is what memory holds.
 pub record KeepsContents : Type 0 where
   pub next : (m : MachineSpec) (s : State) (d : Data) (flat : BlockNo → Block) (a : Actor) (kind : EventKind) → Invariants m s → IsTrue (is_actor_of m a) → IsTrue (guard m s a kind) → DataHolds m s d flat → DataHolds m (next_state m s a kind) (next_data m s d a kind) (next_flat s flat a kind)
   pub buffers : (m : MachineSpec) (s : State) (d : Data) (flat : BlockNo → Block) (a : Actor) (kind : EventKind) → Invariants m s → IsTrue (guard m s a kind) → IsNoRace s kind → DataHolds m s d flat → BuffersHold s d flat → BuffersHold (next_state m s a kind) (next_data m s d a kind) (next_flat s flat a kind)
+  pub issued : (m : MachineSpec) (s : State) (d : Data) (flat : BlockNo → Block) (new : PeiLook) (counts : List ℕ) → new.phase ≡ phase.Issued → DataHolds m s d flat → BuffersHold s d flat → DataHolds m (record s { peis = s.peis ++ new ∷ []; issues = counts }) d flat × BuffersHold (record s { peis = s.peis ++ new ∷ []; issues = counts }) d flat
   pub seen : (m : MachineSpec) (s : State) (d : Data) (flat : BlockNo → Block) (b : BlockNo) → Invariants m s → DataHolds m s d flat → peek m s d b ≡ flat b
   pub shows : (m : MachineSpec) (s : State) (d : Data) (a : Actor) (kind : EventKind) (b : BlockNo) → Invariants m s → IsTrue (is_actor_of m a) → IsTrue (guard m s a kind) → DataHolds m s d (peek m s d) → peek m (next_state m s a kind) (next_data m s d a kind) b ≡ next_flat s (peek m s d) a kind b
   pub same : (m : MachineSpec) (s : State) (d g : Data) (flat : BlockNo → Block) → Invariants m s → SameWhereThere m s d g → DataHolds m s d flat → DataHolds m s g flat

@@ -59,9 +59,9 @@ impl Core {
     /// that has stopped tells the same again until one of its events was taken in. Memory has `blocks` blocks.
     pub fn next_call(&mut self, program: &Program, fuel: u32, blocks: u32) -> CoreNext
         requires { blocks ≤ 65536 }
-        ensures stop { self.new.state ≡ at_stop program.now fuel blocks self.old.state }
+        ensures stop { self.new.state ≡ at_stop program.now config self.old.state }
         ensures instr { self.new.instr ≡ instr_at program.now self.new.state.pc }
-        ensures next { seen result ≡ next_of program.now fuel blocks self.old.state }
+        ensures next { seen result ≡ next_of program.now config self.old.state }
         ensures ready { IsTrue (is_asking result) → MayRetire self.new }
     {
         let next = self.state.run(program, fuel, blocks);

@@ -111,7 +111,7 @@ impl State {
         requires size { blocks ≤ 65536 }
         requires ended { self.old.ended ≡ None }
         requires raced { self.old.raced ≡ None }
-        ensures cases { let step = core_step program.now fuel blocks self.old
+        ensures cases { let step = core_step program.now config self.old
             in MatchOption result (step ≡ Retires self.new)
             (λ next. (self.new ≡ self.old) × (step ≡ Stops (seen next))) }
         ensures counts { IfNone result
@@ -146,8 +146,8 @@ impl State {
     /// Executes instructions up to the next call, and tells what the core does next.
     pub fn run(&mut self, program: &Program, fuel: u32, blocks: u32) -> CoreNext
         requires { blocks ≤ 65536 }
-        ensures stop { self.new ≡ at_stop program.now fuel blocks self.old }
-        ensures next { seen result ≡ next_of program.now fuel blocks self.old }
+        ensures stop { self.new ≡ at_stop program.now config self.old }
+        ensures next { seen result ≡ next_of program.now config self.old }
         ensures asks { IsTrue (is_asking result) →
             IsSome (instr_at program.now self.new.pc) × (self.new.retired < fuel) }
     {

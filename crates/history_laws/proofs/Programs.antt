@@ -68,22 +68,22 @@ asks_fence blocks s (instr.Bltu ra rb to) h = absurd (no_branch _ s.pc to s.regi
 asks_fence blocks s (instr.Bgeu ra rb to) h = absurd (no_branch _ s.pc to s.registers s h)
 asks_fence blocks s _ h = absurd (cc h)
 
-at_fence_instr : (p : Listing) (fuel blocks : ℕ) (s : CoreState) (o : Option Instr) → step_at blocks s o ≡ Stops (Calls call.Fence) → o ≡ Some instr.Pfence
-at_fence_instr p fuel blocks s None h = absurd (cc h)
-at_fence_instr p fuel blocks s (Some i) h = by (busy_register s.waits i) h
+at_fence_instr : (p : Listing) (config : CoreConfig) (s : CoreState) (o : Option Instr) → step_at blocks s o ≡ Stops (Calls call.Fence) → o ≡ Some instr.Pfence
+at_fence_instr p config s None h = absurd (cc h)
+at_fence_instr p config s (Some i) h = by (busy_register s.waits i) h
   where
     by : (w : Option ℕ) → step_unless_busy blocks s i w ≡ Stops (Calls call.Fence) → Some i ≡ Some instr.Pfence
     by None k = ap Some (asks_fence blocks s i k)
     by (Some w) k = absurd (cc k)
 
-pub at_fence : (p : Listing) (fuel blocks : ℕ) (s : CoreState) → core_step p fuel blocks s ≡ Stops (Calls call.Fence) → AtFence p fuel s
-at_fence p fuel blocks s h = by s.ended s.raced refl refl h
+pub at_fence : (p : Listing) (config : CoreConfig) (s : CoreState) → core_step p config s ≡ Stops (Calls call.Fence) → AtFence p fuel s
+at_fence p config s h = by s.ended s.raced refl refl h
   where
     running : (b : Bool) → s.ended ≡ None → s.raced ≡ None → nat_lt s.retired fuel ≡ b → (if b then step_at blocks s (instr_at p s.pc) else Stops (Calls (call.End ends.Fuel))) ≡ Stops (Calls call.Fence) → AtFence p fuel s
-    running true e r q k = record { open_end = e; no_race = r; below = q; here = at_fence_instr p fuel blocks s (instr_at p s.pc) k }
+    running true e r q k = record { open_end = e; no_race = r; below = q; here = at_fence_instr p config s (instr_at p s.pc) k }
     running false e r q k = absurd (cc k)
 
-    by : (ended raced : Option EndKind) → s.ended ≡ ended → s.raced ≡ raced → step_unless_over p fuel blocks s ended raced ≡ Stops (Calls call.Fence) → AtFence p fuel s
+    by : (ended raced : Option EndKind) → s.ended ≡ ended → s.raced ≡ raced → step_unless_over p config s ended raced ≡ Stops (Calls call.Fence) → AtFence p fuel s
     by (Some kind) raced e r k = absurd (cc k)
     by None (Some race) e r k = absurd (cc k)
     by None None e r k = running (nat_lt s.retired fuel) e r refl k
@@ -97,33 +97,33 @@ fence_free : (waits : List (Option Wait)) → busy_register waits instr.Pfence �
 unfolding busy_register
 fence_free waits = rw (no_register (λ r. is_some (wait_at waits r)) (range_with_len 0 16)) refl
 
-pub fence_stops : (p : Listing) (fuel blocks : ℕ) (s : CoreState) → AtFence p fuel s → core_step p fuel blocks s ≡ Stops (Calls call.Fence)
-fence_stops p fuel blocks s a = rw (a.open_end, a.no_race, a.below, a.here, fence_free s.waits) refl
+pub fence_stops : (p : Listing) (config : CoreConfig) (s : CoreState) → AtFence p fuel s → core_step p config s ≡ Stops (Calls call.Fence)
+fence_stops p config s a = rw (a.open_end, a.no_race, a.below, a.here, fence_free s.waits) refl
 
 -- what a core does next that stands where it stops
-pub next_of_stopped : (p : Listing) (fuel blocks : ℕ) (s : CoreState) (x : CoreNext) → core_step p fuel blocks s ≡ Stops x → next_of p fuel blocks s ≡ x
-next_of_stopped p fuel blocks s x h =
-    ap (λ t. next_of_step (core_step p fuel blocks t)) (stays p fuel blocks (suc (fuel - s.retired)) s x h) ∙ ap next_of_step h
+pub next_of_stopped : (p : Listing) (config : CoreConfig) (s : CoreState) (x : CoreNext) → core_step p config s ≡ Stops x → next_of p config s ≡ x
+next_of_stopped p config s x h =
+    ap (λ t. next_of_step (core_step p config t)) (stays p config (suc (fuel - s.retired)) s x h) ∙ ap next_of_step h
 
 -- where a core stops, it stops at what it does next
-pub stopped_at : (p : Listing) (fuel blocks : ℕ) (s : CoreState) → core_step p fuel blocks (at_stop p fuel blocks s) ≡ Stops (next_of p fuel blocks s)
-stopped_at p fuel blocks s =
-    let r = steps_stop p fuel blocks (suc (fuel - s.retired)) s (enough (fuel - s.retired))
+pub stopped_at : (p : Listing) (config : CoreConfig) (s : CoreState) → core_step p config (at_stop p config s) ≡ Stops (next_of p config s)
+stopped_at p config s =
+    let r = steps_stop p config (suc (fuel - s.retired)) s (enough (fuel - s.retired))
     in r.1 ∙ ap Stops (sym (ap next_of_step r.1))
   where
     enough : (n : ℕ) → n < suc n
     enough n = omega arith
 
 -- a core that has run to its stop does next what it did
-pub next_kept : (p : Listing) (fuel blocks : ℕ) (s : CoreState) → next_of p fuel blocks (at_stop p fuel blocks s) ≡ next_of p fuel blocks s
-next_kept p fuel blocks s = next_of_stopped p fuel blocks (at_stop p fuel blocks s) (next_of p fuel blocks s) (stopped_at p fuel blocks s)
+pub next_kept : (p : Listing) (config : CoreConfig) (s : CoreState) → next_of p config (at_stop p config s) ≡ next_of p config s
+next_kept p config s = next_of_stopped p config (at_stop p config s) (next_of p config s) (stopped_at p config s)
 
 -- a core at a fence stays there when one of its PEIs acts
-pub next_after_act : (p : Listing) (fuel blocks : ℕ) (s t : CoreState) → next_of p fuel blocks s ≡ Calls call.Fence → t.ended ≡ (at_stop p fuel blocks s).ended → t.raced ≡ (at_stop p fuel blocks s).raced → t.retired ≡ (at_stop p fuel blocks s).retired → t.pc ≡ (at_stop p fuel blocks s).pc → next_of p fuel blocks t ≡ Calls call.Fence
-next_after_act p fuel blocks s t h ended raced retired pc =
-    let a = at_fence p fuel blocks (at_stop p fuel blocks s) (stopped_at p fuel blocks s ∙ ap Stops h)
-    in next_of_stopped p fuel blocks t (Calls call.Fence)
-    (fence_stops p fuel blocks t (record { open_end = ended ∙ a.open_end; no_race = raced ∙ a.no_race; below = ap (λ n. nat_lt n fuel) retired ∙ a.below; here = ap (instr_at p) pc ∙ a.here }))
+pub next_after_act : (p : Listing) (config : CoreConfig) (s t : CoreState) → next_of p config s ≡ Calls call.Fence → t.ended ≡ (at_stop p config s).ended → t.raced ≡ (at_stop p config s).raced → t.retired ≡ (at_stop p config s).retired → t.pc ≡ (at_stop p config s).pc → next_of p config t ≡ Calls call.Fence
+next_after_act p config s t h ended raced retired pc =
+    let a = at_fence p config (at_stop p config s) (stopped_at p config s ∙ ap Stops h)
+    in next_of_stopped p config t (Calls call.Fence)
+    (fence_stops p config t (record { open_end = ended ∙ a.open_end; no_race = raced ∙ a.no_race; below = ap (λ n. nat_lt n fuel) retired ∙ a.below; here = ap (instr_at p) pc ∙ a.here }))
 
 -- ---- one more event
 
@@ -138,22 +138,22 @@ no_other : (x : CoreNext) (kind : EventKind) → x ≡ Calls call.Fence → Answ
 no_other x kind h answer = subst (λ y. AnswersNext y kind) h answer
 
 -- a core of which this is an event
-core_grown : (p : Listing) (m : MachineSpec) (image : Contents) (journal : List Event) (a : Actor) (kind : EventKind) → next_of_core p m image (journal ++ record { actor = a; kind = kind } ∷ []) a.core ≡ next_of p m.fuel m.blocks (after_answer p (at_stop p m.fuel m.blocks (core_after p m.fuel m.blocks (core_at_start image a.core) (events_of a.core journal))) kind)
+core_grown : (p : Listing) (m : MachineSpec) (image : Contents) (journal : List Event) (a : Actor) (kind : EventKind) → next_of_core p m image (journal ++ record { actor = a; kind = kind } ∷ []) a.core ≡ next_of p (core_config m) (after_answer p (at_stop p (core_config m) (core_after p (core_config m) (core_at_start image a.core) (events_of a.core journal))) kind)
 core_grown p m image journal a kind =
     let own : events_of a.core (journal ++ record { actor = a; kind = kind } ∷ []) ≡ events_of a.core journal ++ record { actor = a; kind = kind } ∷ [] = events_of-push a.core journal (record { actor = a; kind = kind }) ∙ rw (same_self a.core.0) refl
-    in ap (λ es. next_of p m.fuel m.blocks (core_after p m.fuel m.blocks (core_at_start image a.core) es)) own
-    ∙ ap (next_of p m.fuel m.blocks) (core_after-push p m.fuel m.blocks (core_at_start image a.core) (events_of a.core journal) (record { actor = a; kind = kind }))
+    in ap (λ es. next_of p (core_config m) (core_after p (core_config m) (core_at_start image a.core) es)) own
+    ∙ ap (next_of p (core_config m)) (core_after-push p (core_config m) (core_at_start image a.core) (events_of a.core journal) (record { actor = a; kind = kind }))
 
 core_kept : (p : Listing) (m : MachineSpec) (image : Contents) (journal : List Event) (a : Actor) (kind : EventKind) (c : CoreId) → same_core a.core c ≡ false → next_of_core p m image (journal ++ record { actor = a; kind = kind } ∷ []) c ≡ next_of_core p m image journal c
 core_kept p m image journal a kind c h =
     let own : events_of c (journal ++ record { actor = a; kind = kind } ∷ []) ≡ events_of c journal = events_of-push c journal (record { actor = a; kind = kind }) ∙ rw h (append-nil (events_of c journal))
-    in ap (λ es. next_of p m.fuel m.blocks (core_after p m.fuel m.blocks (core_at_start image c) es)) own
+    in ap (λ es. next_of p (core_config m) (core_after p (core_config m) (core_at_start image c) es)) own
 
 -- The own core of an event goes on asking for its fence.
 own_asks : (p : Listing) (m : MachineSpec) (image : Contents) (journal : List Event) (a : Actor) (kind : EventKind) → AnswersCall (next_of_core p m image journal a.core) m journal a kind → AsksForFence (next_of_core p m image journal a.core) journal a.core → AsksForFence (next_of_core p m image (journal ++ record { actor = a; kind = kind } ∷ []) a.core) (journal ++ record { actor = a; kind = kind } ∷ []) a.core
 own_asks p m image journal a event.FenceBegin answers asks on =
     core_grown p m image journal a event.FenceBegin
-    ∙ next_kept p m.fuel m.blocks (core_after p m.fuel m.blocks (core_at_start image a.core) (events_of a.core journal))
+    ∙ next_kept p (core_config m) (core_after p (core_config m) (core_at_start image a.core) (events_of a.core journal))
     ∙ answers_begin (next_of_core p m image journal a.core) answers.1.1
 own_asks p m image journal a event.FenceEnd answers asks on = absurd (cc (sym on ∙ fence_off_here journal a))
 own_asks p m image journal a (event.Load addr value) answers asks on = absurd (no_other (next_of_core p m image journal a.core) (event.Load addr value) (asks (on_before a.core journal (record { actor = a; kind = event.Load addr value }) (and-false (same_core a.core a.core)) on)) answers.1.1)
@@ -164,12 +164,12 @@ own_asks p m image journal a (event.Race pc b by) answers asks on = absurd (no_o
 own_asks p m image journal a (event.End kind) answers asks on = absurd (no_other (next_of_core p m image journal a.core) (event.End kind) (asks (on_before a.core journal (record { actor = a; kind = event.End kind }) (and-false (same_core a.core a.core)) on)) answers.1.1)
 own_asks p m image journal a (event.Act seq reply) answers asks on =
     core_grown p m image journal a (event.Act seq reply)
-    ∙ next_after_act p m.fuel m.blocks (core_after p m.fuel m.blocks (core_at_start image a.core) (events_of a.core journal))
-    (after_answer p (at_stop p m.fuel m.blocks (core_after p m.fuel m.blocks (core_at_start image a.core) (events_of a.core journal))) (event.Act seq reply))
+    ∙ next_after_act p (core_config m) (core_after p (core_config m) (core_at_start image a.core) (events_of a.core journal))
+    (after_answer p (at_stop p (core_config m) (core_after p (core_config m) (core_at_start image a.core) (events_of a.core journal))) (event.Act seq reply))
     (asks (on_before a.core journal (record { actor = a; kind = event.Act seq reply }) (and-false (same_core a.core a.core)) on)) refl refl refl refl
 own_asks p m image journal a _ answers asks on =
     core_grown p m image journal a _
-    ∙ next_kept p m.fuel m.blocks (core_after p m.fuel m.blocks (core_at_start image a.core) (events_of a.core journal))
+    ∙ next_kept p (core_config m) (core_after p (core_config m) (core_at_start image a.core) (events_of a.core journal))
     ∙ asks (on_before a.core journal (record { actor = a; kind = _ }) (and-false (same_core a.core a.core)) on)
 
 -- Each core whose fence is on goes on asking for it after one more event that answers its core's call.

@@ -17,7 +17,7 @@ use Rattle.pei_types.specs.declared.events.EventKind.TheVariants as event
 use Rattle.pei_types.specs.declared.machines.MachineSpec.{MachineSpec}
 use Rattle.pei_types.specs.Blocks.{same_core}
 use Rattle.pei_types.specs.Calls.{AnswersCall, follows_phase}
-use Rattle.pei_types.specs.Coherence.{State, start_state, next_state, state_after, after_placing, after_reading, after_acting, after_acting_in, after_taking_back, after_invalidating, after_downgrading, look_of, pei_id, is_phase, with_phase, is_m, letter_of, free_lane}
+use Rattle.pei_types.specs.Coherence.{State, start_state, next_state, state_after, after_placing, after_reading, after_acting, after_acting_in, after_taking_back, after_invalidating, after_downgrading, look_of, pei_id, is_phase, with_phase, is_ahead, letter_of, free_lane}
 use Rattle.pei_types.specs.Core.{CoreNext}
 use Rattle.pei_types.specs.Guard.{guard, is_lane}
 use Rattle.pei_types.specs.Legal.{EachEvent, EachFrom, MachineLegal}
@@ -136,7 +136,7 @@ keeps_acting m s None = keeps_itself s
 keeps_acting m s (Some p) = keeps_acting_in m s p p.phase
 
 pub keeps_taking_back : (m : MachineSpec) (s : State) (b : BlockNo) (l : Letter) → Keeps s (after_taking_back m s b l)
-keeps_taking_back m s b l = keeps_if (is_m l) s _ s (record { peis = refl; issues = refl; fences = refl }) (keeps_itself s)
+keeps_taking_back m s b l = keeps_if (is_ahead l) s _ s (record { peis = refl; issues = refl; fences = refl }) (keeps_itself s)
 
 pub keeps_invalidating : (m : MachineSpec) (s : State) (c : CoreId) (b : BlockNo) → Keeps s (after_invalidating m s c b)
 keeps_invalidating m s c b = let k = keeps_taking_back m s b (letter_of m s c b) in record { peis = k.peis; issues = k.issues; fences = k.fences }

@@ -5,7 +5,7 @@ use Rattle.pei_types.specs.declared.inflight_looks.PeiLook.{PeiLook}
 use Rattle.pei_types.specs.declared.events.EventKind.{EventKind}
 use Rattle.pei_types.specs.declared.events.EventKind.TheVariants as event
 use Rattle.pei_types.specs.declared.machines.MachineSpec.{MachineSpec}
-use Rattle.pei_types.specs.Blocks.{same_core, same_pei}
+use Rattle.pei_types.specs.Blocks.{same_core, same_lane, same_pei}
 use Rattle.pei_types.specs.Coherence.{State, look_of, pei_id}
 use Rattle.pei_types.specs.Exclusion.{conflicts}
 use Rattle.pei_types.specs.Guard.{pei_guard}
@@ -16,6 +16,10 @@ use Rattle.history_laws.specs.Tracking.{is_past_issue}
 pub record InTurn (m : MachineSpec) (s : State) : Type 0 where
   pub entered : (p q : PeiLook) → In p s.peis → In q s.peis → same_core p.id.core q.id.core ≡ true → p.id.seq < q.id.seq → is_past_issue q ≡ true → is_past_issue p ≡ true
   pub alone : (p q : PeiLook) → In p s.peis → In q s.peis → same_pei p.id q.id ≡ false → is_past_issue p ≡ true → is_past_issue q ≡ true → conflicts m p.block p.op q.block q.op ≡ false
+
+-- no two PEIs of a core are in one lane
+abbrev pub LanesApart : State → Type 0
+LanesApart s = (p q : PeiLook) → In p s.peis → In q s.peis → same_core p.id.core q.id.core ≡ true → same_lane p.lane q.lane ≡ true → p ≡ q
 
 -- a PEI enters first of its core, on an entry that is not taken
 abbrev pub enters_rightly : MachineSpec → State → Actor → EventKind → Bool

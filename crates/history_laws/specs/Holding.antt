@@ -2,6 +2,7 @@
 use Rattle.std.specs.Prelude.{◌≡◌, ℕ, ◌+◌, ◌<◌, Bool, true, false, ◌&&◌, ◌==◌, if◌then◌else◌, List, [], ◌∷◌, length, Some, slice_index_or}
 use Rattle.pei_types.specs.declared.identifiers.Actor.{Actor}
 use Rattle.pei_types.specs.declared.inflight_looks.PeiLook.{PeiLook}
+use Rattle.pei_types.specs.declared.inflight_looks.Phase.TheVariants as phase
 use Rattle.pei_types.specs.declared.machines.MachineSpec.{MachineSpec}
 use Rattle.pei_types.specs.declared.operations.Mode.{Mode}
 use Rattle.pei_types.specs.declared.operations.Mode.TheVariants as mode
@@ -10,7 +11,7 @@ use Rattle.pei_types.specs.Claims.{Claims, no_claims}
 use Rattle.pei_types.specs.Coherence.{State, look_in}
 use Rattle.pei_types.specs.Operation.{mode_of}
 use Rattle.pei_types.specs.Recency.{list_at}
-use Rattle.pei_types.specs.Schedule.{LaneClaim, Free, Held, Spent}
+use Rattle.pei_types.specs.Schedule.{LaneClaim, Free, Announced, Held, Spent}
 use Rattle.history_laws.specs.Members.{In}
 use Rattle.history_laws.specs.Tracking.{is_past_issue}
 
@@ -46,9 +47,14 @@ abbrev pub counted : Mode → Claims → ℕ
 counted mode.Reader c = c.readers
 counted mode.Writer c = c.writers
 
--- The entries count the lanes that hold them; where one holds an entry as a writer no other holds it; a lane whose PEI
--- is active holds its entry in its mode, and a lane that holds an entry has such a PEI; and no two PEIs of a core are in
--- one lane.
+-- whether a lane has announced itself on entry e
+abbrev pub waits_on : ℕ → LaneClaim → Bool
+waits_on e (Announced at) = at == e
+waits_on e _ = false
+
+-- The entries count the lanes that hold them, and those that wait for them; where one holds an entry as a writer no other
+-- holds it; a lane whose PEI is active holds its entry in its mode, and a lane that holds an entry has such a PEI; a lane that
+-- waits has a writer on the entry that has not entered; and no two PEIs of a core are in one lane.
 pub record Holding (m : MachineSpec) (s : State) (entries : List Claims) (claims : List (List LaneClaim)) : Type 0 where
   pub cores : length claims ≡ m.cores
   pub lanes : (c : ℕ) → c < m.cores → length (list_at claims c) ≡ m.buffer + 1
@@ -57,4 +63,6 @@ pub record Holding (m : MachineSpec) (s : State) (entries : List Claims) (claims
   pub lone : (c l d n e : ℕ) (k : Mode) → holds_entry e mode.Writer (claim_at claims c l) ≡ true → holds_entry e k (claim_at claims d n) ≡ true → (c ≡ d) × (l ≡ n)
   pub active : (l : PeiLook) → In l s.peis → is_past_issue l ≡ true → claim_at claims l.id.core.0 l.lane.0 ≡ Held (entry_of m l.block) (mode_of l.op)
   pub held : (a : Actor) (e : ℕ) (k : Mode) → claim_at claims a.core.0 a.lane.0 ≡ Held e k → (p : PeiLook) × (look_in s a.core a.lane ≡ Some p) × (entry_of m p.block ≡ e) × (mode_of p.op ≡ k)
+  pub waiting : (e : ℕ) → e < m.directory → (slice_index_or entries e no_claims).waiting ≡ count_all (waits_on e) claims
+  pub announced : (a : Actor) (e : ℕ) → claim_at claims a.core.0 a.lane.0 ≡ Announced e → (p : PeiLook) × (look_in s a.core a.lane ≡ Some p) × (p.phase ≡ phase.Issued) × (entry_of m p.block ≡ e) × (mode_of p.op ≡ mode.Writer)
   pub apart : (p q : PeiLook) → In p s.peis → In q s.peis → same_core p.id.core q.id.core ≡ true → same_lane p.lane q.lane ≡ true → p ≡ q

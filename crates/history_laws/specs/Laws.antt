@@ -47,14 +47,23 @@ pub record AgreementTells : Type 0 where
   pub unfinished : (m : MachineSpec) (s : State) (journal : List Event) → Agrees m s journal → (c : CoreId) → first_unfinished s c ≡ option_map (λ p. p.id) (find (λ p. same_core p.id.core c) (unfinished_peis journal))
   pub unentered : (m : MachineSpec) (s : State) (journal : List Event) → Agrees m s journal → (c : CoreId) → first_unentered s c ≡ option_map (λ p. p.id) (find (λ p. same_core p.id.core c && not (has_entered journal p.id)) (unfinished_peis journal))
   pub active : (m : MachineSpec) (s : State) (journal : List Event) → Agrees m s journal → active_peis journal ≡ map as_issued (filter is_past_issue s.peis)
-  pub drained : (m : MachineSpec) (s : State) (journal : List Event) → Agrees m s journal → (c : CoreId) → first_unfinished s c ≡ None → IsTrue (all_left journal c)
+  pub drained : (m : MachineSpec) (s : State) (journal : List Event) → Agrees m s journal → (c : CoreId) → (first_unfinished s c ≡ None) ↔ IsTrue (all_left journal c)
   pub looks : (m : MachineSpec) (s : State) (journal : List Event) → Agrees m s journal → (l : PeiLook) → In l s.peis → IsTracked journal l
   pub one : (m : MachineSpec) (s : State) (journal : List Event) → Agrees m s journal → (k l : PeiLook) → In k s.peis → In l s.peis → k.id ≡ l.id → k ≡ l
   pub distinct : (m : MachineSpec) (s : State) (journal : List Event) → Agrees m s journal → AllPairs (λ p q. same_pei p.id q.id ≡ false) (issued_peis journal)
   pub found : (m : MachineSpec) (s : State) (journal : List Event) → Agrees m s journal → (id : PeiId) (p : Pei) (ph : Phase) → pei_of journal id ≡ Some p → phase_of journal id ≡ Some ph → (l : PeiLook) × (look_of s id ≡ Some l) × (as_issued l ≡ p) × (l.phase ≡ ph)
   pub lost : (m : MachineSpec) (s : State) (journal : List Event) → Agrees m s journal → (id : PeiId) → phase_of journal id ≡ None → look_of s id ≡ None
   pub follows : (m : MachineSpec) (s : State) (journal : List Event) → Agrees m s journal → (a : Actor) (kind : EventKind) (seq : ℕ) → FollowsPei journal a kind seq → (l : PeiLook) × (look_of s (pei_id a seq) ≡ Some l) × (same_lane l.lane a.lane ≡ true) × (follows_phase l.phase kind ≡ true)
-  pub fence : (m : MachineSpec) (s : State) (journal : List Event) → Agrees m s journal → (c : CoreId) → fence_of s c ≡ Some [] → IsTrue (earlier_writers_left journal c)
+  pub fence : (m : MachineSpec) (s : State) (journal : List Event) → Agrees m s journal → (c : CoreId) → fence_is_on c journal ≡ true → (fence_of s c ≡ Some []) ↔ IsTrue (earlier_writers_left journal c)
+
+-- Exclusion, in a state that agrees with a history. No active PEI of the history conflicts with a PEI on its way exactly
+-- where the PEI's entry is not taken in the state; so it is where none of the PEIs with an Enter and no Leave does, in the order of
+-- their Enter events. Where no two PEIs of a core are in one lane, a PEI that is to enter next in its lane enters alone in the
+-- history exactly where it enters free in the state.
+pub record ExclusionTells : Type 0 where
+  pub active : (m : MachineSpec) (s : State) (journal : List Event) (l : PeiLook) → Agrees m s journal → IsTrue (list_all (λ q. not (conflicts m l.block l.op q.block q.op)) (active_peis journal)) ↔ (entry_is_taken m s l ≡ false)
+  pub entered : (m : MachineSpec) (s : State) (journal : List Event) (l : PeiLook) → Agrees m s journal → IsTrue (list_all (λ q. not (conflicts m l.block l.op q.block q.op)) (entered_peis journal)) → entry_is_taken m s l ≡ false
+  pub alone : (m : MachineSpec) (s : State) (journal : List Event) (a : Actor) (seq : ℕ) → Agrees m s journal → LanesApart s → FollowsPei journal a (event.Enter seq) seq → EntersAlone m journal a (event.Enter seq) ↔ EntersFree m s a (event.Enter seq)
 
 -- Sound journals grow by sound events; an event that fits its actor is one.
 pub record SoundGrows : Type 0 where

@@ -78,12 +78,13 @@ pub record WholeRunsAreLegal : Type 0 where
 
 -- Caches, vaults and operand buffers that hold some memory. They do from the start. After an event of an actor of the
 -- machine that meets its guard and does not race they hold that memory as the event leaves it, changed by a store or an
--- act alone; so a message changes no block. What is seen of a block, what a core finds in its copy, what is in the buffer
+-- act alone; so a message changes no block. An issue into any lane, under any name, changes none. What is seen of a block, what a core finds in its copy, what is in the buffer
 -- of a PEI that has read, and what a sealed PEI finds in its vault, is what memory holds. Next event by next event, with
 -- any call, the memory that they hold is flat memory after the journal.
 pub record ContentsAreKept : Type 0 where
   pub start : (m : MachineSpec) (image : Contents) → HoldsMemory m (start_state m) (start_holdings m image) (block_at image)
   pub next : (m : MachineSpec) (s : State) (k : Holdings) (memory : BlockNo → Block) (a : Actor) (kind : EventKind) → Invariants m s → IsTrue (is_actor_of m a) → IsTrue (guard m s a kind) → IsNoRace s kind → HoldsMemory m s k memory → HoldsMemory m (next_state m s a kind) (next_holdings m s k a kind) (next_flat s memory a kind)
+  pub issued : (m : MachineSpec) (s : State) (k : Holdings) (memory : BlockNo → Block) (new : PeiLook) (counts : List ℕ) → new.phase ≡ phase.Issued → HoldsMemory m s k memory → HoldsMemory m (record s { peis = s.peis ++ new ∷ []; issues = counts }) k memory
   pub message : (m : MachineSpec) (s : State) (k : Holdings) (memory : BlockNo → Block) (a : Actor) (kind : EventKind) → side_of kind ≡ Messages → Invariants m s → IsTrue (is_actor_of m a) → IsTrue (guard m s a kind) → HoldsMemory m s k memory → HoldsMemory m (next_state m s a kind) (next_holdings m s k a kind) memory
   pub seen : (m : MachineSpec) (s : State) (k : Holdings) (memory : BlockNo → Block) (b : BlockNo) → Invariants m s → HoldsMemory m s k memory → seen_block m s k b ≡ memory b
   pub shows : (m : MachineSpec) (s : State) (k : Holdings) (memory : BlockNo → Block) (a : Actor) (kind : EventKind) (b : BlockNo) → Invariants m s → IsTrue (is_actor_of m a) → IsTrue (guard m s a kind) → IsNoRace s kind → HoldsMemory m s k memory → seen_block m (next_state m s a kind) (next_holdings m s k a kind) b ≡ next_flat s (seen_block m s k) a kind b

@@ -69,8 +69,8 @@ tracked_in journal test (p ∷ ps) q h e = by (test p) e (λ k. tracked_in journ
 pub record Turned (p : Listing) (m : MachineSpec) (v : Running) (a : Actor) (s t : Standing) (w : Playing) (event : Option Event) : Type 0 where
   pub own : slice_get v.cores a.core.0 ≡ Some s
   pub inside : LaneInside m v.plain a
-  pub row : TookRow (actor_row (next_of p m.fuel m.blocks s.state) v.plain a) a v.plain w event
-  pub core : TookIn p m.fuel m.blocks s.state t.state event
+  pub row : TookRow (actor_row (next_of p (core_config m) s.state) v.plain a) a v.plain w event
+  pub core : TookIn p (core_config m) s.state t.state event
 
 -- the laws that are used
 pub record LawsUsed : Type 0 where
@@ -80,10 +80,10 @@ pub record LawsUsed : Type 0 where
   pub plain : PlainRunsAreLegal
 
 -- the turn of the definitions is that row
-row_taken : (laws : LawsUsed) (p : Listing) (m : MachineSpec) (image : Contents) (r : Run) (v : Running) (a : Actor) (s t : Standing) (w : Playing) (event : Option Event) → IsTrue (is_actor_of m a) → Tracks p m image r v → Turned p m v a s t w event → turn (plain_table m image) p m image r a ≡ by_row r a (actor_row (next_of p m.fuel m.blocks s.state) v.plain a)
+row_taken : (laws : LawsUsed) (p : Listing) (m : MachineSpec) (image : Contents) (r : Run) (v : Running) (a : Actor) (s t : Standing) (w : Playing) (event : Option Event) → IsTrue (is_actor_of m a) → Tracks p m image r v → Turned p m v a s t w event → turn (plain_table m image) p m image r a ≡ by_row r a (actor_row (next_of p (core_config m) s.state) v.plain a)
 row_taken laws p m image r v a s t w event actor track turned =
     let at = track.cores a.core s (core_within m a actor) turned.own
-    in turn_is p m image r v.plain a (next_of p m.fuel m.blocks s.state) track.plain (sym (next_same laws.once p m image r.journal a.core s.state at)) (λ y e. laws.fit p m.fuel m.blocks s.state y e) turned.inside
+    in turn_is p m image r v.plain a (next_of p (core_config m) s.state) track.plain (sym (next_same laws.once p m image r.journal a.core s.state at)) (λ y e. laws.fit p (core_config m) s.state y e) turned.inside
 
 -- after a stall
 pub tracked_stall : (laws : LawsUsed) (p : Listing) (m : MachineSpec) (image : Contents) (r : Run) (v : Running) (a : Actor) (s t : Standing) (w : Playing) → IsTrue (is_actor_of m a) → Tracks p m image r v → Turned p m v a s t w None → Tracks p m image (turn (plain_table m image) p m image r a) (record { plain = w; cores = slice_set v.cores a.core.0 t; ends = v.ends; stalls = v.stalls + 1 })
@@ -109,7 +109,7 @@ tracked_stall laws p m image r v a s t w actor track turned =
 -- after an event
 pub tracked_event : (laws : LawsUsed) (p : Listing) (m : MachineSpec) (image : Contents) (r : Run) (v : Running) (a : Actor) (s t : Standing) (w : Playing) (e : Event) (ends : List (Option EndKind)) → IsTrue (is_actor_of m a) → Tracks p m image r v → Turned p m v a s t w (Some e) → ends ≡ ends_after v.ends e → Tracks p m image (turn (plain_table m image) p m image r a) (record { plain = w; cores = slice_set v.cores a.core.0 t; ends = ends; stalls = v.stalls })
 tracked_event laws p m image r v a s t w e ends actor track turned ended =
-    let x = next_of p m.fuel m.blocks s.state
+    let x = next_of p (core_config m) s.state
     in let made = turned.row.0
     in let same = row_taken laws p m image r v a s t w (Some e) actor track turned ∙ ap (by_row r a) made
     in let quiet = row_quiet x v.plain a e.kind made
@@ -178,7 +178,7 @@ tracked_start p m image v sound plain words cores ends stalls =
     record {
       plain = subst (λ (u : Playing). PlainTracks m image [] u) (sym plain) (record { machine = refl; journal = refl; state = refl; words = words; memory = λ b h. refl });
       stalls = stalls;
-      cores = λ c s within found. ap (at_stop p m.fuel m.blocks) (made_core image 0 8 c.0 s (ap (λ xs. slice_get xs c.0) (sym cores) ∙ found) ∙ ap (λ n. core_at_start image (record { 0 = n })) (none_on c.0));
+      cores = λ c s within found. ap (at_stop p (core_config m)) (made_core image 0 8 c.0 s (ap (λ xs. slice_get xs c.0) (sym cores) ∙ found) ∙ ap (λ n. core_at_start image (record { 0 = n })) (none_on c.0));
       ends = ends;
       sound = sound;
     }

@@ -19,7 +19,7 @@ use Rattle.sched_run.specs.declared.running.Running.{Running}
 -- a core that stops next where the core of the definitions stops after its events
 abbrev pub IsAt : Listing → MachineSpec → Contents → List Event → CoreId → CoreState → Type 0
 IsAt p m image journal c s =
-    at_stop p m.fuel m.blocks s ≡ at_stop p m.fuel m.blocks (core_after p m.fuel m.blocks (core_at_start image c) (events_of c journal))
+    at_stop p (core_config m) s ≡ at_stop p (core_config m) (core_after p (core_config m) (core_at_start image c) (events_of c journal))
 
 -- the plain machine is where this journal leaves it
 pub record PlainTracks (m : MachineSpec) (image : Contents) (events : List Event) (v : Playing) : Type 0 where

@@ -49,5 +49,5 @@ TookRow row a old new (Some e) = (row ≡ Makes e.kind) × (e.actor ≡ a) × (n
 
 -- The core has taken the event in, and stops next where it stops after that.
 abbrev pub TookIn : Listing → ℕ → ℕ → CoreState → CoreState → Option Event → Type 0
-TookIn p fuel blocks s t None = at_stop p fuel blocks t ≡ at_stop p fuel blocks s
-TookIn p fuel blocks s t (Some e) = at_stop p fuel blocks t ≡ at_stop p fuel blocks (after_answer p (at_stop p fuel blocks s) e.kind)
+TookIn p config s t None = at_stop p config t ≡ at_stop p config s
+TookIn p config s t (Some e) = at_stop p config t ≡ at_stop p config (after_answer p (at_stop p config s) e.kind)

@@ -20,8 +20,8 @@ use pei_types::{Actor, CoreId, Event, Program};
 fn program_turn(plain: &mut Plain, core: &mut Core, program: &Program, id: CoreId) -> Option<Event>
     requires id { id.0 < plain.old.machine.cores }
     requires room { length plain.old.journal < plain.old.machine.events }
-    ensures row { TookRow (program_row (next_of program.now plain.old.machine.fuel plain.old.machine.blocks core.old.state) plain.old id) (program_of id) plain.old plain.new result }
-    ensures core { TookIn program.now plain.old.machine.fuel plain.old.machine.blocks core.old.state core.new.state result }
+    ensures row { TookRow (program_row (next_of program.now (core_config plain.old.machine) core.old.state) plain.old id) (program_of id) plain.old plain.new result }
+    ensures core { TookIn program.now (core_config plain.old.machine) core.old.state core.new.state result }
 {
     calls_fit();
     core_stops_once();
@@ -44,7 +44,7 @@ fn lane_turn(plain: &mut Plain, core: &mut Core, program: &Program, actor: Actor
     requires room { length plain.old.journal < plain.old.machine.events }
     ensures inside { IfSome (look_in plain.old.state actor.core actor.lane) (λ p. p.block.0 < plain.old.machine.blocks) }
     ensures row { TookRow (plain_lane plain.old.machine plain.old.state (block_in plain.old.words) (look_in plain.old.state actor.core actor.lane)) actor plain.old plain.new result }
-    ensures core { TookIn program.now plain.old.machine.fuel plain.old.machine.blocks core.old.state core.new.state result }
+    ensures core { TookIn program.now (core_config plain.old.machine) core.old.state core.new.state result }
 {
     let machine = plain.machine();
     match plain.lane(actor.core, actor.lane) {
@@ -67,8 +67,8 @@ pub(crate) fn actor_turn(
     requires actor { IsTrue (is_actor_of plain.old.machine actor) }
     requires room { length plain.old.journal < plain.old.machine.events }
     ensures inside { 0 < actor.lane.0 → IfSome (look_in plain.old.state actor.core actor.lane) (λ p. p.block.0 < plain.old.machine.blocks) }
-    ensures row { TookRow (actor_row (next_of program.now plain.old.machine.fuel plain.old.machine.blocks core.old.state) plain.old actor) actor plain.old plain.new result }
-    ensures core { TookIn program.now plain.old.machine.fuel plain.old.machine.blocks core.old.state core.new.state result }
+    ensures row { TookRow (actor_row (next_of program.now (core_config plain.old.machine) core.old.state) plain.old actor) actor plain.old plain.new result }
+    ensures core { TookIn program.now (core_config plain.old.machine) core.old.state core.new.state result }
 {
     if actor.lane.0 == 0 {
         program_turn(plain, core, program, actor.core)

@@ -10,12 +10,12 @@ returns-in_default c =
     let p = c.args.program.now
     in let v = c.args.plain.now
     in let s = c.args.core.now.state
-    in let told = c.next_call.ensures.next ∙ ap (λ m. next_of p m.fuel m.blocks s) c.machine-machine.ensures
-    in let stopped = c.next_call.ensures.stop ∙ ap (λ m. at_stop p m.fuel m.blocks s) c.machine-machine.ensures
+    in let told = c.next_call.ensures.next ∙ ap (λ m. next_of p (core_config m) s) c.machine-machine.ensures
+    in let stopped = c.next_call.ensures.stop ∙ ap (λ m. at_stop p (core_config m) s) c.machine-machine.ensures
     in record {
       row = (
         (stall.Idle, ap (λ x. program_row x v c.args.id) (sym told) ∙ stalls_uncalled c.next_call.result v c.args.id c.in_default.not-Call),
         refl,
       );
-      core = ap (at_stop p v.machine.fuel v.machine.blocks) stopped ∙ c.core_stops_once.ensures.again p v.machine.fuel v.machine.blocks s;
+      core = ap (at_stop p (core_config v.machine)) stopped ∙ c.core_stops_once.ensures.again p (core_config v.machine) s;
     }

@@ -1,5 +1,5 @@
 use Rattle.std.proofs.Common.{arith, true, false, refl, sym, ap, ◌∙◌}
-use Rattle.pei_types.specs.Coherence.{is_i, is_m}
+use Rattle.pei_types.specs.Coherence.{is_i, is_ahead}
 use Rattle.llc.specs.Cache.{with_dirty}
 use Rattle.coherence_bus.proofs.MessageEffects.{has_core, letter_is, core_at, included, taken}
 use Rattle.coherence_bus.proofs.bus.Bus.take_away.Goals as goal
@@ -18,26 +18,26 @@ pub invariant_of-self : goal.invariant_of-self
 invariant_of-self c =
     let letter = letter_is c.laws.ensures c.self.inside c.self.invariant c.args.core c.index_mut.result.now _ c.args.b (has_core c.laws.ensures c.self.inside c.self.invariant c.args.core c.args.b (rw (← c.self.view_is) at c.requires)) c.index_mut.ensures.value
     in let t = taken c.laws.ensures c.self.inside c.self.invariant c.args.core c.index_mut.result.now c.drop_line-letter.new.self _ c.args.b c.take_back.new.self true (has_core c.laws.ensures c.self.inside c.self.invariant c.args.core c.args.b (rw (← c.self.view_is) at c.requires)) c.index_mut.ensures.value (rw (← c.self.view_is) at c.requires)
-    (ap is_m (letter ∙ sym (ap (λ p. p.0) c.drop_line-letter.ensures.had)) ∙ sym c.is_modified.ensures ∙ c.if-is_modified.true) c.drop_line-letter.ensures.lines (c.take_back.ensures ∙ ap (λ p. with_dirty c.self.inside.llc c.args.b p.1) c.drop_line-letter.ensures.had)
+    (ap is_ahead (letter ∙ sym (ap (λ p. p.0) c.drop_line-letter.ensures.had)) ∙ sym c.is_modified.ensures ∙ c.if-is_modified.true) c.drop_line-letter.ensures.lines (c.take_back.ensures ∙ ap (λ p. with_dirty c.self.inside.llc c.args.b p.1) c.drop_line-letter.ensures.had)
     in record { sizes = t.sizes; coheres = t.coheres }
 
 pub invariant_of-self-else-is_modified : goal.invariant_of-self-else-is_modified
 invariant_of-self-else-is_modified c =
     let letter = letter_is c.laws.ensures c.self.inside c.self.invariant c.args.core c.index_mut.result.now _ c.args.b (has_core c.laws.ensures c.self.inside c.self.invariant c.args.core c.args.b (rw (← c.self.view_is) at c.requires)) c.index_mut.ensures.value
     in let t = taken c.laws.ensures c.self.inside c.self.invariant c.args.core c.index_mut.result.now c.drop_line-letter.new.self _ c.args.b c.self.inside.llc false (has_core c.laws.ensures c.self.inside c.self.invariant c.args.core c.args.b (rw (← c.self.view_is) at c.requires)) c.index_mut.ensures.value (rw (← c.self.view_is) at c.requires)
-    (ap is_m (letter ∙ sym (ap (λ p. p.0) c.drop_line-letter.ensures.had)) ∙ sym c.is_modified.ensures ∙ c.if-is_modified.false) c.drop_line-letter.ensures.lines refl
+    (ap is_ahead (letter ∙ sym (ap (λ p. p.0) c.drop_line-letter.ensures.had)) ∙ sym c.is_modified.ensures ∙ c.if-is_modified.false) c.drop_line-letter.ensures.lines refl
     in record { sizes = t.sizes; coheres = t.coheres }
 
 pub returns-then-is_modified : goal.returns-then-is_modified
 returns-then-is_modified c =
     let letter = letter_is c.laws.ensures c.self.inside c.self.invariant c.args.core c.index_mut.result.now _ c.args.b (has_core c.laws.ensures c.self.inside c.self.invariant c.args.core c.args.b (rw (← c.self.view_is) at c.requires)) c.index_mut.ensures.value
     in let t = taken c.laws.ensures c.self.inside c.self.invariant c.args.core c.index_mut.result.now c.drop_line-letter.new.self _ c.args.b c.take_back.new.self true (has_core c.laws.ensures c.self.inside c.self.invariant c.args.core c.args.b (rw (← c.self.view_is) at c.requires)) c.index_mut.ensures.value (rw (← c.self.view_is) at c.requires)
-    (ap is_m (letter ∙ sym (ap (λ p. p.0) c.drop_line-letter.ensures.had)) ∙ sym c.is_modified.ensures ∙ c.if-is_modified.true) c.drop_line-letter.ensures.lines (c.take_back.ensures ∙ ap (λ p. with_dirty c.self.inside.llc c.args.b p.1) c.drop_line-letter.ensures.had)
+    (ap is_ahead (letter ∙ sym (ap (λ p. p.0) c.drop_line-letter.ensures.had)) ∙ sym c.is_modified.ensures ∙ c.if-is_modified.true) c.drop_line-letter.ensures.lines (c.take_back.ensures ∙ ap (λ p. with_dirty c.self.inside.llc c.args.b p.1) c.drop_line-letter.ensures.had)
     in rw (← c.self.view_is) t.shows
 
 pub returns-else-is_modified : goal.returns-else-is_modified
 returns-else-is_modified c =
     let letter = letter_is c.laws.ensures c.self.inside c.self.invariant c.args.core c.index_mut.result.now _ c.args.b (has_core c.laws.ensures c.self.inside c.self.invariant c.args.core c.args.b (rw (← c.self.view_is) at c.requires)) c.index_mut.ensures.value
     in let t = taken c.laws.ensures c.self.inside c.self.invariant c.args.core c.index_mut.result.now c.drop_line-letter.new.self _ c.args.b c.self.inside.llc false (has_core c.laws.ensures c.self.inside c.self.invariant c.args.core c.args.b (rw (← c.self.view_is) at c.requires)) c.index_mut.ensures.value (rw (← c.self.view_is) at c.requires)
-    (ap is_m (letter ∙ sym (ap (λ p. p.0) c.drop_line-letter.ensures.had)) ∙ sym c.is_modified.ensures ∙ c.if-is_modified.false) c.drop_line-letter.ensures.lines refl
+    (ap is_ahead (letter ∙ sym (ap (λ p. p.0) c.drop_line-letter.ensures.had)) ∙ sym c.is_modified.ensures ∙ c.if-is_modified.false) c.drop_line-letter.ensures.lines refl
     in rw (← c.self.view_is) t.shows

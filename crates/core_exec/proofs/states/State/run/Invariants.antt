@@ -5,7 +5,7 @@ use Rattle.core_exec.proofs.states.State.run.Given as goal
 abbrev pub invariant-loop-next : goal.invariant-loop-next
 invariant-loop-next l =
     record {
-      same_stop : at_stop l.program l.fuel l.blocks l.initial.self ≡ at_stop l.program l.fuel l.blocks l.self;
+      same_stop : at_stop l.program (core_config l) l.initial.self ≡ at_stop l.program (core_config l) l.self;
       not_ended : l.self.ended ≡ None;
       not_raced : l.self.raced ≡ None;
     }
