@@ -93,7 +93,7 @@ fits_store : (x : CoreNext) (m : MachineSpec) (image : Contents) (journal : List
 fits_store x m image journal s a pc addr value actor lane same None h = (actor, (lane, (pc, same, h)))
 fits_store x m image journal s a pc addr value actor lane same (Some by) h = (actor, (lane, inr (addr, value, refl, same, h)))
 
-pub fits_issue : (x : CoreNext) (m : MachineSpec) (image : Contents) (journal : List Event) (s : State) (a : Actor) (kind : EventKind) (o : Op) (b : BlockNo) (operands : Operands) → IsTrue (is_actor_of m a) → a.lane.0 ≡ 0 → x ≡ Calls (call.Pei o b operands) → (lane : Option Lane) → free_lane m s a.core ≡ lane → issue_row s a.core o b operands lane ≡ Makes kind → Fits x m image journal s a kind
+pub fits_issue : (x : CoreNext) (m : MachineSpec) (image : Contents) (journal : List Event) (s : State) (a : Actor) (kind : EventKind) (o : Op) (b : BlockNo) (operands : Operands) → IsTrue (is_actor_of m a) → a.lane.0 ≡ 0 → x ≡ Calls (call.Pei o b operands) → (lane : Option Lane) → free_lane m s a.core ≡ lane → issue_row (slice_index s.issues a.core.0) o b operands lane ≡ Makes kind → Fits x m image journal s a kind
 fits_issue x m image journal s a kind o b operands actor lane same None e h = absurd (cc h)
 fits_issue x m image journal s a kind o b operands actor lane same (Some l) e h = subst (Fits x m image journal s a) (makes_is _ kind h) (actor, (lane, (same, refl, e)))
 
