@@ -25,9 +25,10 @@ use Rattle.history_laws.specs.Entering.{LanesApart}
 use Rattle.history_laws.specs.Holding.{claim_at, holds_entry, same_mode, one, counted, waits_on, Holding}
 use Rattle.history_laws.proofs.Lists.{get_or-change_at_same, get_or-change_at_other, find_filter, find_Some, find_None, find-map, find_agree, each_in, in_map, in_filter, in_push}
 use Rattle.history_laws.proofs.Agree.{moved}
-use Rattle.history_laws.proofs.Counting.{changed, claim_here, claim_other, length-changed, count_change, count_some, entry_below}
+use Rattle.history_laws.proofs.Counting.{changed, claim_here, claim_other, length-changed, count_change, count_some}
 use Rattle.std.proofs.lemmas.Bool.{not-true, and_parts}
 use Rattle.std.proofs.lemmas.Option.{same_Some}
+use Rattle.pei_types.proofs.Groups.{entry_below}
 use Rattle.pei_types.proofs.Lists.{length-change_at}
 use Rattle.pei_types.proofs.Identities.{same_pei_refl, same_pei_is}
 use Rattle.pei_types.proofs.Tests.{eqb_sym}

@@ -50,7 +50,8 @@ use Rattle.history_laws.proofs.Agree.{Moves, moved, new_look}
 use Rattle.history_laws.proofs.Steps.{moves_place_host, moves_place_memory, moves_read, moves_seal, moves_act, keeps_placing, keeps_reading, keeps_acting, keeps_invalidating, keeps_downgrading}
 use Rattle.history_laws.proofs.Derived.{look_same}
 use Rattle.history_laws.proofs.Clauses.{IsOf, of_lane}
-use Rattle.history_laws.proofs.Plain.{run_next, run_starts, chosen}
+use Rattle.history_laws.proofs.Fitting.{run_next, run_starts}
+use Rattle.history_laws.proofs.Policies.{chosen}
 use Rattle.history_laws.proofs.Rows.{fits_call_row, fits_pei_row}
 use Rattle.history_laws.proofs.Counting.{changed}
 use Rattle.history_laws.proofs.Holding.{Follows, may_try, holding_follows, follows_same, follows_moved, follows_issued, holding_left, holding_announced, holding_granted, holding_released}

@@ -26,7 +26,7 @@ use Rattle.pei_types.specs.Turns.{IsNextOf, PlacesByMonitor}
 use Rattle.pei_types.specs.Operation.{mode_of}
 use Rattle.pei_types.specs.Program.{Listing, Contents}
 use Rattle.pei_types.specs.Race.{racing_pei}
-use Rattle.pei_types.specs.Schedule.{Run, run_at_start, turn, Policy, LaneClaim, Held, whole_table, plain_table, scheduled_run, round_robin, serial, by_draws, by_list}
+use Rattle.pei_types.specs.Schedule.{Run, run_at_start, turn, Policy, LaneClaim, Held, whole_table, scheduled_run, round_robin, serial, by_draws, by_list}
 use Rattle.pei_types.specs.Claims.{Claims}
 use Rattle.history_laws.specs.Entering.{LanesApart}
 use Rattle.history_laws.specs.Holding.{claim_at, Holding}
@@ -84,12 +84,8 @@ pub record RunsGoOn : Type 0 where
   pub start : (p : Listing) (m : MachineSpec) (image : Contents) → SoundRun p m image []
   pub next : (p : Listing) (m : MachineSpec) (image : Contents) (journal : List Event) (a : Actor) (kind : EventKind) → Fits (next_of_core p m image journal a.core) m image journal (state_after m journal) a kind → SoundRun p m image journal → SoundRun p m image (journal ++ record { actor = a; kind = kind } ∷ [])
 
--- Every scheduled run of the plain machine is legal on the flat machine, by any policy that chooses the machine's
--- actors, as the built-in ones do, and a list of such actors.
-pub record PlainRunsAreLegal : Type 0 where
-  pub legal : (p : Listing) (m : MachineSpec) (image : Contents) (policy : Policy) (n : ℕ) → ChoosesActors m policy → FlatLegal p m image (scheduled_run (plain_table m image) p m image policy n).journal
-  pub sound : (p : Listing) (m : MachineSpec) (image : Contents) (policy : Policy) (n : ℕ) → ChoosesActors m policy → SoundRun p m image (scheduled_run (plain_table m image) p m image policy n).journal
-  pub step : (p : Listing) (m : MachineSpec) (image : Contents) (r : Run) (a : Actor) → IsTrue (is_actor_of m a) → SoundRun p m image r.journal → SoundRun p m image (turn (plain_table m image) p m image r a).journal
+-- The built-in policies give turns only to actors of the machine, and so does a list of such actors.
+pub record PoliciesChooseActors : Type 0 where
   pub turns : (m : MachineSpec) → ChoosesActors m (round_robin m)
   pub serial : (m : MachineSpec) → ChoosesActors m (serial m)
   pub draws : (m : MachineSpec) (f : ℕ → ℕ) → ChoosesActors m (by_draws m f)

@@ -1,7 +1,7 @@
 //! The laws, each the contract of a function with an empty body.
 
 ghost use Rattle.history_laws.specs.Fenced.{FencesNeedTheirCore};
-ghost use Rattle.history_laws.specs.Laws.{StatesAgree, AgreementTells, ExclusionTells, SoundGrows, FittingMeets, RunsGoOn, PlainRunsAreLegal, JournalsAreSound, NextEventsMeet, WholeRunsAreLegal, RestIsState};
+ghost use Rattle.history_laws.specs.Laws.{StatesAgree, AgreementTells, ExclusionTells, SoundGrows, FittingMeets, RunsGoOn, PoliciesChooseActors, JournalsAreSound, NextEventsMeet, WholeRunsAreLegal, RestIsState};
 
 /// The state after a journal and the journal's own history name the same PEIs on their way, in the same phases, and the
 /// same issues and fences.
@@ -40,10 +40,10 @@ pub fn runs_go_on()
     ensures { RunsGoOn }
 {}
 
-/// Every scheduled run of the plain machine, which has one memory and no caches, is legal on the flat machine, by each
-/// built-in policy.
-pub fn plain_runs_are_legal()
-    ensures { PlainRunsAreLegal }
+/// Each built-in policy gives turns only to actors of the machine: in turn, one actor until it stalls, by draws, or by a
+/// list of such actors.
+pub fn policies_choose_actors()
+    ensures { PoliciesChooseActors }
 {}
 
 /// A legal journal is that of a sound run, and one of the machine below the cores is sound where no core issues while
