@@ -1,4 +1,4 @@
--- Runs of the plain machine are legal on the flat machine.
+-- An event that fits its actor is sound, and rows fit.
 use Rattle.std.proofs.Common.{◌≡◌, ◌<◌, Bool, true, false, if◌then◌else◌, List, [], ◌∷◌, ◌++◌, Option, Some, None, IsTrue, refl, sym, ◌∙◌, ap, subst, slice_index}
 use Rattle.pei_types.specs.declared.identifiers.Actor.{Actor}
 use Rattle.pei_types.specs.declared.identifiers.BlockNo.{BlockNo}

@@ -1,25 +1,33 @@
 -- The machine below the cores: one more event, by the laws of histories and those of coherence.
-use Rattle.std.proofs.Common.{Bool, true, false, not, refl, ◌∙◌, ◌≡◌, ℕ, zero, suc, ◌<◌, List, [], ◌∷◌, ◌++◌, IsTrue, Some, sym, subst, arith}
+use Rattle.std.proofs.Common.{Bool, true, false, not, refl, ◌∙◌, ◌≡◌, ◌↔◌, ap, ap₂, ℕ, zero, suc, ◌<◌, List, [], ◌∷◌, ◌++◌, IsTrue, Some, sym, subst, arith}
 use Rattle.std.proofs.lemmas.Bool.{and_parts}
 use Rattle.pei_types.specs.declared.identifiers.Actor.{Actor}
 use Rattle.pei_types.specs.declared.calls.Call.TheVariants as call
 use Rattle.pei_types.specs.declared.inflight_looks.PeiLook.{PeiLook}
+use Rattle.pei_types.specs.declared.inflight_looks.Phase.{Phase}
 use Rattle.pei_types.specs.declared.events.Event.{Event}
 use Rattle.pei_types.specs.declared.events.EventKind.{EventKind}
 use Rattle.pei_types.specs.declared.events.EventKind.TheVariants as event
 use Rattle.pei_types.specs.declared.machines.MachineSpec.{MachineSpec}
-use Rattle.pei_types.specs.Calls.{AnswersCall, is_actor_of}
+use Rattle.pei_types.specs.Calls.{AnswersCall, FollowsPei, is_actor_of}
 use Rattle.pei_types.specs.Coherence.{State, state_after, look_in, first_unentered, entry_is_taken}
 use Rattle.pei_types.specs.Core.{CoreNext, Calls}
+use Rattle.pei_types.specs.Exclusion.{EntersAlone}
 use Rattle.pei_types.specs.Guard.{guard, pei_guard, is_pei}
+use Rattle.pei_types.specs.History.{Pei}
 use Rattle.pei_types.specs.Legal.{MeetsAll}
 use Rattle.pei_types.specs.Next.{Makes}
 use Rattle.pei_types.specs.Program.{Contents}
 use Rattle.pei_types.specs.Turns.{IsNextOf, is_entering, lane_turn}
+use Rattle.pei_types.proofs.Identities.{same_core_is, same_lane_is}
 use Rattle.pei_types.proofs.Pushes.{state_after-push}
+use Rattle.pei_types.proofs.Tests.{same_self}
+use Rattle.history_laws.specs.Entering.{LanesApart}
 use Rattle.history_laws.specs.Fits.{AsksForFence, EntersFree}
-use Rattle.history_laws.specs.Laws.{AgreementTells, NextEventsMeet, RestIsState}
+use Rattle.history_laws.specs.Laws.{AgreementTells, ExclusionTells, NextEventsMeet, RestIsState}
+use Rattle.history_laws.specs.Members.{In}
 use Rattle.history_laws.specs.Sound.{MeetsState}
+use Rattle.history_laws.specs.Tracking.{as_issued}
 use Rattle.coherence_laws.specs.Invariants.{Invariants}
 use Rattle.coherence_laws.specs.Laws.{IsAllowed, KeepsInvariants, LanesHoldPeis, RowsAreAllowed, TurnsAreAllowed}
 use Rattle.machine_laws.specs.Standing.{MachineInOrder}
@@ -86,3 +94,28 @@ enters_free tells lanes m journal a (event.Enter seq) x h calls ok =
     is_false true e = absurd (cc e)
     is_false false e = refl
 enters_free tells lanes m journal a _ x h calls ok = tt
+
+-- ---- exclusion in the state and in the history
+
+-- a PEI on its way is found in its lane
+look_placed : AgreementTells → LanesHoldPeis → (m : MachineSpec) (journal : List Event) (p : PeiLook) → MachineInOrder m journal → In p (state_after m journal).peis → look_in (state_after m journal) p.id.core p.lane ≡ Some p
+look_placed tells lanes m journal p h i =
+    let s : State = state_after m journal
+    in let t = tells.looks m s journal h.sound.agrees p i
+    in let r = tells.found m s journal h.sound.agrees p.id (as_issued p) p.phase t.found t.stands
+    in let same : r.0 ≡ p = ap₂ with_phase r.2 r.3
+    in lanes.placed m s (record { core = p.id.core; lane = p.lane }) p.id.seq p h.invariants (r.1 ∙ ap Some same) (same_self p.lane.0)
+  where
+    with_phase : Pei → Phase → PeiLook
+    with_phase q ph = record { id = q.id; lane = q.lane; op = q.op; block = q.block; operands = q.operands; phase = ph }
+
+lanes_apart : AgreementTells → LanesHoldPeis → (m : MachineSpec) (journal : List Event) → MachineInOrder m journal → LanesApart (state_after m journal)
+lanes_apart tells lanes m journal h p q i j core lane =
+    same_Some p q
+    (sym (look_placed tells lanes m journal p h i)
+    ∙ ap₂ (look_in (state_after m journal)) (same_core_is p.id.core q.id.core core) (same_lane_is p.lane q.lane lane)
+    ∙ look_placed tells lanes m journal q h j)
+
+pub enters_alone : AgreementTells → ExclusionTells → LanesHoldPeis → (m : MachineSpec) (journal : List Event) (a : Actor) (seq : ℕ) → MachineInOrder m journal → FollowsPei journal a (event.Enter seq) seq → EntersAlone m journal a (event.Enter seq) ↔ EntersFree m (state_after m journal) a (event.Enter seq)
+enters_alone tells excludes lanes m journal a seq h follows =
+    excludes.alone m (state_after m journal) journal a seq h.sound.agrees (lanes_apart tells lanes m journal h) follows

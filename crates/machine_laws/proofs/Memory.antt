@@ -1,10 +1,11 @@
 -- Caches, vaults and buffers that hold memory, event by event.
-use Rattle.std.proofs.Common.{◌≡◌, false, List, [], ◌∷◌, ◌++◌, IsTrue, refl, sym, subst}
+use Rattle.std.proofs.Common.{◌≡◌, ℕ, false, List, [], ◌∷◌, ◌++◌, IsTrue, refl, sym, subst}
 use Rattle.std.proofs.lemmas.List.{append_assoc, append-nil}
 use Rattle.pei_types.specs.declared.identifiers.Actor.{Actor}
 use Rattle.pei_types.specs.declared.identifiers.Block.{Block}
 use Rattle.pei_types.specs.declared.identifiers.BlockNo.{BlockNo}
 use Rattle.pei_types.specs.declared.inflight_looks.PeiLook.{PeiLook}
+use Rattle.pei_types.specs.declared.inflight_looks.Phase.TheVariants as phase
 use Rattle.pei_types.specs.declared.events.Event.{Event}
 use Rattle.pei_types.specs.declared.events.EventKind.{EventKind}
 use Rattle.pei_types.specs.declared.events.EventKind.TheVariants as event
@@ -76,6 +77,12 @@ pub memory_message : KeepsInvariants → KeepsContents → FollowsContents → (
 memory_message keeps contents follows m s k memory a kind message i own ok h =
     subst (HoldsMemory m (next_state m s a kind) (next_holdings m s k a kind)) (message_changes_none s memory a kind message)
     (memory_next keeps contents follows m s k memory a kind i own ok (message_alone s kind message) h)
+
+-- an issue into any lane
+pub memory_issued : KeepsContents → (m : MachineSpec) (s : State) (k : Holdings) (memory : BlockNo → Block) (new : PeiLook) (counts : List ℕ) → new.phase ≡ phase.Issued → HoldsMemory m s k memory → HoldsMemory m (record s { peis = s.peis ++ new ∷ []; issues = counts }) k memory
+memory_issued contents m s k memory new counts fresh h =
+    let both = contents.issued m s (data_of m k) memory new counts fresh h.current h.buffers
+    in record { l1 = h.l1; llc = h.llc; current = both.0; buffers = both.1 }
 
 -- what is seen
 pub memory_seen : KeepsContents → (m : MachineSpec) (s : State) (k : Holdings) (memory : BlockNo → Block) (b : BlockNo) → Invariants m s → HoldsMemory m s k memory → seen_block m s k b ≡ memory b

@@ -1,5 +1,5 @@
 -- The laws of this crate.
-use Rattle.std.specs.Prelude.{◌≡◌, ℕ, ◌<◌, true, false, IsTrue, List, [], ◌∷◌, ◌++◌, length, Some}
+use Rattle.std.specs.Prelude.{◌≡◌, ◌↔◌, ℕ, ◌<◌, true, false, IsTrue, List, [], ◌∷◌, ◌++◌, length, Some}
 use Rattle.std.specs.List.{list_all}
 use Rattle.pei_types.specs.declared.identifiers.Actor.{Actor}
 use Rattle.pei_types.specs.declared.identifiers.Block.{Block}
@@ -13,10 +13,12 @@ use Rattle.pei_types.specs.declared.inflight_looks.PeiLook.{PeiLook}
 use Rattle.pei_types.specs.declared.inflight_looks.Phase.TheVariants as phase
 use Rattle.pei_types.specs.declared.events.Event.{Event}
 use Rattle.pei_types.specs.declared.events.EventKind.{EventKind}
+use Rattle.pei_types.specs.declared.events.EventKind.TheVariants as event
 use Rattle.pei_types.specs.declared.machines.MachineSpec.{MachineSpec}
-use Rattle.pei_types.specs.Calls.{Messages, is_actor_of, side_of}
+use Rattle.pei_types.specs.Calls.{Messages, FollowsPei, is_actor_of, side_of}
 use Rattle.pei_types.specs.Coherence.{State, start_state, next_state, state_after, letter_of, mark_of, is_i, is_owned, look_of, is_phase, with_l1_front}
 use Rattle.pei_types.specs.Core.{CoreNext}
+use Rattle.pei_types.specs.Exclusion.{EntersAlone}
 use Rattle.pei_types.specs.FlatMemory.{flat_block}
 use Rattle.pei_types.specs.Guard.{guard}
 use Rattle.pei_types.specs.Legal.{EachEvent, Legal, MachineLegal, Meets, MeetsAll}
@@ -38,7 +40,8 @@ use Rattle.machine_laws.specs.Standing.{MachineInOrder, RunInOrder}
 -- its core does next, and that enters only on a free entry, meets every clause with x; and one that meets every clause
 -- is such a row. It leaves the machine in order where the core goes on asking for a fence that is on; a lane's event does
 -- so whatever its core does. The machine is in order after each journal of its own in which no core issues while its
--- fence is on.
+-- fence is on. A PEI that is to enter next in its lane conflicts with no active PEI of the journal exactly where it enters on
+-- a free entry.
 pub record MachineGoesOn : Type 0 where
   pub start : (m : MachineSpec) → MachineInOrder m []
   pub meets : (x : CoreNext) (m : MachineSpec) (image : Contents) (journal : List Event) (e : Event) → MachineInOrder m journal → IsTrue (is_actor_of m e.actor) → EntersFree m (state_after m journal) e.actor e.kind → IsNextOf x m image journal e.actor e.kind → MeetsAll x m image journal e
@@ -46,6 +49,7 @@ pub record MachineGoesOn : Type 0 where
   pub next : (x : CoreNext) (m : MachineSpec) (image : Contents) (journal : List Event) (e : Event) → MachineInOrder m journal → IsTrue (is_actor_of m e.actor) → EntersFree m (state_after m journal) e.actor e.kind → AsksForFence x journal e.actor.core → IsNextOf x m image journal e.actor e.kind → MachineInOrder m (journal ++ e ∷ [])
   pub lane : (x : CoreNext) (m : MachineSpec) (image : Contents) (journal : List Event) (e : Event) → MachineInOrder m journal → IsTrue (is_actor_of m e.actor) → EntersFree m (state_after m journal) e.actor e.kind → 0 < e.actor.lane.0 → IsNextOf x m image journal e.actor e.kind → MachineInOrder m (journal ++ e ∷ [])
   pub alone : (m : MachineSpec) (image : Contents) (journal : List Event) → MachineLegal m image journal → EachEvent (λ before e. IssuesUnfenced before e.actor e.kind) journal → MachineInOrder m journal
+  pub exclusion : (m : MachineSpec) (journal : List Event) (a : Actor) (seq : ℕ) → MachineInOrder m journal → FollowsPei journal a (event.Enter seq) seq → EntersAlone m journal a (event.Enter seq) ↔ EntersFree m (state_after m journal) a (event.Enter seq)
 
 -- A program's run starts in order. An event meets every clause exactly where it goes by its actor's row, and it leaves
 -- the run in order.
@@ -78,9 +82,9 @@ pub record WholeRunsAreLegal : Type 0 where
 
 -- Caches, vaults and operand buffers that hold some memory. They do from the start. After an event of an actor of the
 -- machine that meets its guard and does not race they hold that memory as the event leaves it, changed by a store or an
--- act alone; so a message changes no block. An issue into any lane, under any name, changes none. What is seen of a block, what a core finds in its copy, what is in the buffer
--- of a PEI that has read, and what a sealed PEI finds in its vault, is what memory holds. Next event by next event, with
--- any call, the memory that they hold is flat memory after the journal.
+-- act alone; so a message changes no block. An issue into any lane, under any name, changes none. What is seen of a block,
+-- what a core finds in its copy, what is in the buffer of a PEI that has read, and what a sealed PEI finds in its vault, is
+-- what memory holds. Next event by next event, with any call, the memory that they hold is flat memory after the journal.
 pub record ContentsAreKept : Type 0 where
   pub start : (m : MachineSpec) (image : Contents) → HoldsMemory m (start_state m) (start_holdings m image) (block_at image)
   pub next : (m : MachineSpec) (s : State) (k : Holdings) (memory : BlockNo → Block) (a : Actor) (kind : EventKind) → Invariants m s → IsTrue (is_actor_of m a) → IsTrue (guard m s a kind) → IsNoRace s kind → HoldsMemory m s k memory → HoldsMemory m (next_state m s a kind) (next_holdings m s k a kind) (next_flat s memory a kind)

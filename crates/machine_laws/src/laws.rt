@@ -6,11 +6,13 @@ use coherence_laws::laws as coherence;
 use history_laws::laws as histories;
 
 /// The machine below the cores knows no program: an event that is its actor's next row, for any call that its core may
-/// have made, meets every clause with that call, and leaves the machine in order.
+/// have made, meets every clause with that call where a PEI that enters finds its entry free, as exclusion has it; and it
+/// leaves the machine in order where a core whose fence is on goes on asking for it.
 pub fn machine_goes_on()
     ensures { MachineGoesOn }
 {
     histories::agreement_tells();
+    histories::exclusion_tells();
     histories::sound_journals_grow();
     histories::legal_journals_are_sound();
     histories::next_events_meet();
@@ -46,7 +48,7 @@ pub fn rows_make_legal()
 pub fn whole_runs_are_legal()
     ensures { WholeRunsAreLegal }
 {
-    histories::plain_runs_are_legal();
+    histories::policies_choose_actors();
     histories::whole_runs_are_legal();
     rows_make_legal();
 }

@@ -1,4 +1,4 @@
-use Rattle.machine_laws.proofs.Machine.{next_meets_all, next_in_order, lane_in_order, enters_free}
+use Rattle.machine_laws.proofs.Machine.{next_meets_all, next_in_order, lane_in_order, enters_free, enters_alone}
 use Rattle.machine_laws.proofs.laws.machine_goes_on.Goals as goal
 
 pub returns : goal.returns
@@ -17,4 +17,5 @@ returns c =
       next = next_in_order events rest keeps rows turns;
       lane = lane_in_order events rest keeps rows turns;
       alone = λ m image journal legal off. record { sound = sound.alone m image journal legal off; invariants = keeps.alone m image journal legal };
+      exclusion = enters_alone c.agreement_tells.ensures c.exclusion_tells.ensures c.lanes_hold_peis.ensures;
     }
