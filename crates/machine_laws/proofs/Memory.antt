@@ -62,6 +62,12 @@ memory_next keeps contents follows m s k memory a kind i own ok alone h =
       buffers = follows.buffers m (next_state m s a kind) (next_holdings m s k a kind) (next_data m s (data_of m k) a kind) (next_flat s memory a kind) f (contents.buffers m s (data_of m k) memory a kind i ok alone h.current h.buffers);
     }
 
+-- an issue, into any lane, under any name
+pub memory_issued : KeepsContents → (m : MachineSpec) (s : State) (k : Holdings) (memory : BlockNo → Block) (new : PeiLook) (counts : List ℕ) → new.phase ≡ phase.Issued → HoldsMemory m s k memory → HoldsMemory m (record s { peis = s.peis ++ new ∷ []; issues = counts }) k memory
+memory_issued contents m s k memory new counts issued h =
+    let after = contents.issued m s (data_of m k) memory new counts issued h.current h.buffers
+    in record { l1 = h.l1; llc = h.llc; current = after.0; buffers = after.1 }
+
 -- a message
 message_alone : (s : State) (kind : EventKind) → side_of kind ≡ Messages → IsNoRace s kind
 message_alone s (event.Load addr value) message = absurd (cc message)
