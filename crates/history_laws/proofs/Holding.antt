@@ -78,6 +78,7 @@ pub record Changes (m : MachineSpec) (s : State) (entries entries' : List Claims
   pub not_held : (e : ℕ) (k : Mode) → claim_at claims a.core.0 a.lane.0 ≡ Held e k → ⊥
   pub size : length entries' ≡ length entries
   pub counts : (e : ℕ) (k : Mode) → e < m.directory → counted k (get_or entries' e no_claims) + one (holds_entry e k (claim_at claims a.core.0 a.lane.0)) ≡ counted k (get_or entries e no_claims) + one (holds_entry e k y)
+  pub below : (e : ℕ) (k : Mode) → holds_entry e k y ≡ true → e < m.directory
   pub lone_first : (e : ℕ) (k : Mode) (d n : ℕ) → holds_entry e mode.Writer y ≡ true → holds_entry e k (claim_at claims d n) ≡ true → ⊥
   pub lone_second : (e : ℕ) (k : Mode) (d n : ℕ) → holds_entry e k y ≡ true → holds_entry e mode.Writer (claim_at claims d n) ≡ true → ⊥
   pub held : (e : ℕ) (k : Mode) → y ≡ Held e k → (p : PeiLook) × (look_in s a.core a.lane ≡ Some p) × (entry_of m p.block ≡ e) × (mode_of p.op ≡ k)
@@ -91,6 +92,7 @@ holding_changed m s entries entries' claims a y actor ch h =
       lanes = λ c k. length-changed claims a.core.0 a.lane.0 c (λ _. y) w.core ∙ h.lanes c k;
       size = ch.size ∙ h.size;
       counts = λ e k below. same_count (counted k (get_or entries' e no_claims)) (counted k (get_or entries e no_claims)) _ _ _ _ (ch.counts e k below) (h.counts e k below) (count_change (holds_entry e k) claims a.core.0 a.lane.0 (λ _. y) w.core w.lane);
+      below = below;
       lone = lone;
       active = active;
       held = held;
@@ -112,6 +114,13 @@ holding_changed m s entries entries' claims a y actor ch h =
 
     other : (d n : ℕ) → ((a.core.0 ≡ d) × (a.lane.0 ≡ n) → ⊥) → claim_at (changed claims a.core.0 a.lane.0 (λ _. y)) d n ≡ claim_at claims d n
     other d n q = claim_other claims a.core.0 a.lane.0 d n (λ _. y) w.core q
+
+    below : (c l e : ℕ) (k : Mode) → holds_entry e k (claim_at (changed claims a.core.0 a.lane.0 (λ _. y)) c l) ≡ true → e < m.directory
+    below c l e k g = by (place_cases a.core.0 a.lane.0 c l)
+      where
+        by : ((a.core.0 ≡ c) × (a.lane.0 ≡ l)) ⊎ ((a.core.0 ≡ c) × (a.lane.0 ≡ l) → ⊥) → e < m.directory
+        by (inl p) = ch.below e k (ap (holds_entry e k) (sym (here c l p)) ∙ g)
+        by (inr p) = h.below c l e k (ap (holds_entry e k) (sym (other c l p)) ∙ g)
 
     lone : (c l d n e : ℕ) (k : Mode) → holds_entry e mode.Writer (claim_at (changed claims a.core.0 a.lane.0 (λ _. y)) c l) ≡ true → holds_entry e k (claim_at (changed claims a.core.0 a.lane.0 (λ _. y)) d n) ≡ true → (c ≡ d) × (l ≡ n)
     lone c l d n e k h1 h2 = by (place_cases a.core.0 a.lane.0 c l) (place_cases a.core.0 a.lane.0 d n)
@@ -203,6 +212,7 @@ holding_announced m s entries claims a p actor here issued writes free h =
       counts =
           λ e k below. count_changed m entries at with_announcement e (counted k) (holds_entry e k) (claim_at claims a.core.0 a.lane.0) (Announced at) h.size below
           (λ q. ap₂ (λ n x. n + one (holds_entry e k x)) (counted_announced k (get_or entries e no_claims)) free) (λ q. ap (holds_entry e k) free);
+      below = λ e k q. absurd (cc q);
       lone_first = λ e k d n q. absurd (cc q);
       lone_second = λ e k d n q. absurd (cc q);
       held = λ e k q. absurd (cc q);
@@ -252,6 +262,7 @@ holding_granted m s entries claims a p actor here free granted h =
       size = length-change_at entries at (λ c. with_claim c how);
       counts =
           λ e k below. count_changed m entries at (λ c. with_claim c how) e (counted k) (holds_entry e k) x (Held at how) h.size below (λ q. counts e k q) (λ q. holds_none e k how x free ∙ sym (ap (λ b. b && same_mode how k) (differs at e q)));
+      below = λ e k q. subst (λ n. n < m.directory) (entry e k q) (entry_below m p.block);
       lone_first = λ e k d n q g. none_holds e k d n (first e q) g;
       lone_second = λ e k d n q g. no_writer e d n (entry e k q) g;
       held = λ e k q. (p, here, ap of_entry q, ap of_mode q);
@@ -374,6 +385,7 @@ holding_released m s entries claims a at how actor spent h =
       not_held = λ e k q. absurd (cc (sym spent ∙ q));
       size = length-change_at entries at (λ c. without_claim c how);
       counts = λ e k below. count_changed m entries at (λ c. without_claim c how) e (counted k) (holds_entry e k) x Free h.size below (λ q. counts e k below q) (λ q. ap (holds_entry e k) spent ∙ ap (λ b. b && same_mode how k) (differs at e q));
+      below = λ e k q. absurd (cc q);
       lone_first = λ e k d n q. absurd (cc q);
       lone_second = λ e k d n q. absurd (cc q);
       held = λ e k q. absurd (cc q);
@@ -419,6 +431,7 @@ holding_follows m s t entries claims f h =
       lanes = h.lanes;
       size = h.size;
       counts = h.counts;
+      below = h.below;
       lone = h.lone;
       active = f.active;
       held = λ a e k g. let r = h.held a e k g in let q = f.looks a.core a.lane r.0 r.1 in (q.0, q.1, ap (entry_of m) q.2 ∙ r.2, ap mode_of q.3 ∙ r.3);
@@ -533,6 +546,7 @@ holding_left m s t entries claims a seq l actor same i named lane past unique h 
       lanes = λ c k. length-changed claims a.core.0 a.lane.0 c f w.core ∙ h.lanes c k;
       size = h.size;
       counts = λ e k below. h.counts e k below ∙ sym (same_count _ _ _ _ (count_change (holds_entry e k) claims a.core.0 a.lane.0 f w.core w.lane) (ap one (sym (ap (λ z. holds_entry e k (f z)) was ∙ sym (ap (holds_entry e k) was)))));
+      below = λ c n e k g. h.below c n e k (sym (holds e k c n) ∙ g);
       lone = λ c n d o e k h1 h2. h.lone c n d o e k (sym (holds e mode.Writer c n) ∙ h1) (sym (holds e k d o) ∙ h2);
       active = active;
       held = held;

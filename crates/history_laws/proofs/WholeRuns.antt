@@ -467,6 +467,7 @@ holding_at_start m =
       lanes = λ c h. ap length (get_or-replicate m.cores c (replicate (m.buffer + 1) Free) [] h) ∙ length-replicate (m.buffer + 1) Free;
       size = length-replicate m.directory no_claims;
       counts = λ e k below. none_counted k (get_or (replicate m.directory no_claims) e no_claims) (same_everywhere m.directory e no_claims) ∙ sym (none_hold (holds_entry e k) refl m.cores);
+      below = λ c l e k h. absurd (cc (sym h ∙ ap (holds_entry e k) (all_free c l)));
       lone = λ c l d n e k h. absurd (cc (sym h ∙ ap (holds_entry e mode.Writer) (all_free c l)));
       active = λ l i. absurd i;
       held = λ a e k h. absurd (cc (sym (all_free a.core.0 a.lane.0) ∙ h));

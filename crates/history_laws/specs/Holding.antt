@@ -53,14 +53,15 @@ abbrev pub waits_on : ℕ → LaneClaim → Bool
 waits_on e (Announced at) = at == e
 waits_on e _ = false
 
--- The entries count the lanes that hold them, and those that wait for them; where one holds an entry as a writer no other
--- holds it; a lane whose PEI is active holds its entry in its mode, and a lane that holds an entry has such a PEI; a lane that
+-- The entries count the lanes that hold them, and those that wait for them; what a lane holds is one of the directory's
+-- entries; where one holds an entry as a writer no other holds it; a lane whose PEI is active holds its entry in its mode, and a lane that holds an entry has such a PEI; a lane that
 -- waits has a writer on the entry that has not entered; and no two PEIs of a core are in one lane.
 pub record Holding (m : MachineSpec) (s : State) (entries : List Claims) (claims : List (List LaneClaim)) : Type 0 where
   pub cores : length claims ≡ m.cores
   pub lanes : (c : ℕ) → c < m.cores → length (list_at claims c) ≡ m.buffer + 1
   pub size : length entries ≡ m.directory
   pub counts : (e : ℕ) (k : Mode) → e < m.directory → counted k (slice_index_or entries e no_claims) ≡ count_all (holds_entry e k) claims
+  pub below : (c l e : ℕ) (k : Mode) → holds_entry e k (claim_at claims c l) ≡ true → e < m.directory
   pub lone : (c l d n e : ℕ) (k : Mode) → holds_entry e mode.Writer (claim_at claims c l) ≡ true → holds_entry e k (claim_at claims d n) ≡ true → (c ≡ d) × (l ≡ n)
   pub active : (l : PeiLook) → In l s.peis → is_past_issue l ≡ true → claim_at claims l.id.core.0 l.lane.0 ≡ Held (entry_of m l.block) (mode_of l.op)
   pub held : (a : Actor) (e : ℕ) (k : Mode) → claim_at claims a.core.0 a.lane.0 ≡ Held e k → (p : PeiLook) × (look_in s a.core a.lane ≡ Some p) × (entry_of m p.block ≡ e) × (mode_of p.op ≡ k)

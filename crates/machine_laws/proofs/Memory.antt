@@ -84,12 +84,6 @@ memory_message keeps contents follows m s k memory a kind message i own ok h =
     subst (HoldsMemory m (next_state m s a kind) (next_holdings m s k a kind)) (message_changes_none s memory a kind message)
     (memory_next keeps contents follows m s k memory a kind i own ok (message_alone s kind message) h)
 
--- an issue into any lane
-pub memory_issued : KeepsContents → (m : MachineSpec) (s : State) (k : Holdings) (memory : BlockNo → Block) (new : PeiLook) (counts : List ℕ) → new.phase ≡ phase.Issued → HoldsMemory m s k memory → HoldsMemory m (record s { peis = s.peis ++ new ∷ []; issues = counts }) k memory
-memory_issued contents m s k memory new counts fresh h =
-    let both = contents.issued m s (data_of m k) memory new counts fresh h.current h.buffers
-    in record { l1 = h.l1; llc = h.llc; current = both.0; buffers = both.1 }
-
 -- what is seen
 pub memory_seen : KeepsContents → (m : MachineSpec) (s : State) (k : Holdings) (memory : BlockNo → Block) (b : BlockNo) → Invariants m s → HoldsMemory m s k memory → seen_block m s k b ≡ memory b
 memory_seen contents m s k memory b i h = contents.seen m s (data_of m k) memory b i h.current
