@@ -54,8 +54,9 @@ waits_on e (Announced at) = at == e
 waits_on e _ = false
 
 -- The entries count the lanes that hold them, and those that wait for them; what a lane holds is one of the directory's
--- entries; where one holds an entry as a writer no other holds it; a lane whose PEI is active holds its entry in its mode, and a lane that holds an entry has such a PEI; a lane that
--- waits has a writer on the entry that has not entered; and no two PEIs of a core are in one lane.
+-- entries; where one holds an entry as a writer no other holds it; a lane whose PEI is active holds its entry in its mode,
+-- and a lane that holds an entry has such a PEI; a lane that waits has a writer on the entry that has not entered; and no
+-- two PEIs of a core are in one lane.
 pub record Holding (m : MachineSpec) (s : State) (entries : List Claims) (claims : List (List LaneClaim)) : Type 0 where
   pub cores : length claims ≡ m.cores
   pub lanes : (c : ℕ) → c < m.cores → length (list_at claims c) ≡ m.buffer + 1
