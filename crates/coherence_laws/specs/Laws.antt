@@ -91,9 +91,8 @@ pub record TurnsAreAllowed : Type 0 where
   pub replies : (x : CoreNext) (m : MachineSpec) (image : Contents) (journal : List Event) (a : Actor) (granted : Bool) (kind : EventKind) → PeisAreAsIssued m journal → turn_of x m image journal a granted ≡ Some (Makes kind) → RepliesRightly m image journal a kind
 
 -- Contents that hold some memory, in a state with the invariants: an event that meets its guard leaves contents that
--- hold that memory after the event, where a message changes nothing, and no buffer is out of date. So they do after an issue
--- into any lane, under any name. What is seen of a
--- block is what memory holds.
+-- hold that memory after the event, where a message changes nothing, and no buffer is out of date. So they do after an
+-- issue into any lane, under any name. What is seen of a block is what memory holds.
 pub record KeepsContents : Type 0 where
   pub next : (m : MachineSpec) (s : State) (d : Data) (flat : BlockNo → Block) (a : Actor) (kind : EventKind) → Invariants m s → IsTrue (is_actor_of m a) → IsTrue (guard m s a kind) → DataHolds m s d flat → DataHolds m (next_state m s a kind) (next_data m s d a kind) (next_flat s flat a kind)
   pub buffers : (m : MachineSpec) (s : State) (d : Data) (flat : BlockNo → Block) (a : Actor) (kind : EventKind) → Invariants m s → IsTrue (guard m s a kind) → IsNoRace s kind → DataHolds m s d flat → BuffersHold s d flat → BuffersHold (next_state m s a kind) (next_data m s d a kind) (next_flat s flat a kind)

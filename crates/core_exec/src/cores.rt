@@ -7,7 +7,7 @@ ghost use Rattle.core_exec.specs.Standing.{MayRetire, is_asking, retires, seen};
 
 use crate::next::CoreNext;
 use crate::states::{State, instruction_at};
-use pei_types::{CoreId, EndKind, Event, EventKind, Image, Instr, Program};
+use pei_types::{CoreConfig, CoreId, EndKind, Event, EventKind, Image, Instr, Program};
 use std::marker::Model;
 
 /// One core of the machine, which executes its program in order.
@@ -54,17 +54,17 @@ impl Core {
 
     /// Executes instructions up to the next call, and tells what the core does next.
     ///
-    /// It stops where `fuel` instructions were retired, where the program counter is behind the last instruction, at an
+    /// It stops where `config.fuel` instructions were retired, where the program counter is behind the last instruction, at an
     /// instruction one of whose registers waits for a reply, and at an instruction that makes a call or traps. A core
-    /// that has stopped tells the same again until one of its events was taken in. Memory has `blocks` blocks.
-    pub fn next_call(&mut self, program: &Program, fuel: u32, blocks: u32) -> CoreNext
-        requires { blocks ≤ 65536 }
+    /// that has stopped tells the same again until one of its events was taken in. Memory has `config.blocks` blocks.
+    pub fn next_call(&mut self, program: &Program, config: CoreConfig) -> CoreNext
+        requires { config.blocks ≤ 65536 }
         ensures stop { self.new.state ≡ at_stop program.now config self.old.state }
         ensures instr { self.new.instr ≡ instr_at program.now self.new.state.pc }
         ensures next { seen result ≡ next_of program.now config self.old.state }
         ensures ready { IsTrue (is_asking result) → MayRetire self.new }
     {
-        let next = self.state.run(program, fuel, blocks);
+        let next = self.state.run(program, config);
         self.instr = instruction_at(program, self.state.pc());
         next
     }

@@ -6,7 +6,7 @@ ghost use Rattle.pei_types.specs.Program.{HasRegisters};
 ghost use Rattle.core_exec.specs.Effect.{seen_effect, HasRegister};
 
 use crate::accesses::{dot, histogram, increment, load, lower, probe, store};
-use pei_types::{Call, EndKind, Instr};
+use pei_types::{Call, CoreConfig, EndKind, Instr};
 
 /// What an instruction does at once, or the call that it makes.
 #[derive(Clone, Copy, PartialEq, Eq, Debug)]
@@ -44,12 +44,12 @@ fn branch(taken: bool, pc: u32, to: u32) -> Effect
     }
 }
 
-/// What an instruction at `pc` does, with these registers and so many blocks of memory.
-pub(crate) fn execute(pc: u32, registers: &[u64; 16], instr: Instr, blocks: u32) -> Effect
-    requires size { blocks ≤ 65536 }
+/// What an instruction at `pc` does, with these registers.
+pub(crate) fn execute(pc: u32, registers: &[u64; 16], instr: Instr, config: CoreConfig) -> Effect
+    requires size { config.blocks ≤ 65536 }
     requires place { pc < 65536 }
     requires registers { HasRegisters instr }
-    ensures exact { seen_effect pc registers.now result ≡ effect_of blocks pc registers.now instr }
+    ensures exact { seen_effect pc registers.now result ≡ effect_of config pc registers.now instr }
     ensures register { HasRegister result }
 {
     let word = |register: u8| registers[register as usize];
@@ -66,20 +66,25 @@ pub(crate) fn execute(pc: u32, registers: &[u64; 16], instr: Instr, blocks: u32)
         Instr::Andi { rd, ra, n } => writes(rd, word(ra) & n),
         Instr::Shl { rd, ra, n } => writes(rd, word(ra) << (n % 64)),
         Instr::Shr { rd, ra, n } => writes(rd, word(ra) >> (n % 64)),
-        Instr::Ld { ra, n, .. } => asks(load(pc, address(ra, n), blocks)),
-        Instr::St { rv, ra, n } => asks(store(pc, address(ra, n), word(rv), blocks)),
+        Instr::Ld { ra, n, .. } => asks(load(pc, address(ra, n), config.blocks)),
+        Instr::St { rv, ra, n } => asks(store(pc, address(ra, n), word(rv), config.blocks)),
         Instr::Beq { ra, rb, to } => branch(word(ra) == word(rb), pc, to),
         Instr::Bne { ra, rb, to } => branch(word(ra) != word(rb), pc, to),
         Instr::Bltu { ra, rb, to } => branch(word(ra) < word(rb), pc, to),
         Instr::Bgeu { ra, rb, to } => branch(word(ra) >= word(rb), pc, to),
         Instr::Jmp { to } => Effect::Goes { pc: to },
-        Instr::Pinc { ra, n } => asks(increment(pc, address(ra, n), blocks)),
-        Instr::Pmin { ra, n, rv } => asks(lower(pc, address(ra, n), word(rv), blocks)),
-        Instr::Pprobe { ra, n, rk, .. } => asks(probe(pc, address(ra, n), word(rk), blocks)),
-        Instr::Phist { ra, n, rs, .. } => asks(histogram(pc, address(ra, n), word(rs), blocks)),
+        Instr::Pinc { ra, n } => asks(increment(pc, address(ra, n), config.blocks)),
+        Instr::Pmin { ra, n, rv } => asks(lower(pc, address(ra, n), word(rv), config.blocks)),
+        Instr::Pprobe { ra, n, rk, .. } => asks(probe(pc, address(ra, n), word(rk), config.blocks)),
+        Instr::Phist { ra, n, rs, .. } => asks(histogram(
+            pc,
+            address(ra, n),
+            word(rs),
+            config.blocks,
+        )),
         Instr::Pdot { ra, n, rw, .. } => {
             let operands = [word(rw), word(rw + 1), word(rw + 2), word(rw + 3)];
-            asks(dot(pc, address(ra, n), operands, blocks))
+            asks(dot(pc, address(ra, n), operands, config.blocks))
         }
         Instr::Pfence => asks(Call::Fence),
         Instr::Out { ra } => asks(Call::Out { value: word(ra) }),

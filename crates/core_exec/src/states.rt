@@ -10,7 +10,9 @@ use crate::accesses::trapped;
 use crate::effects::{Effect, execute};
 use crate::next::CoreNext;
 use crate::waits::{ReplyWord, Wait, awaited, lowest_busy, take_reply};
-use pei_types::{Call, CoreId, EndKind, Image, Instr, PeiId, Program, Reply, TrapCause};
+use pei_types::{
+    Call, CoreConfig, CoreId, EndKind, Image, Instr, PeiId, Program, Reply, TrapCause,
+};
 use std::marker::Model;
 
 /// The instruction at a place, if the program has one there.
@@ -91,8 +93,8 @@ impl State {
     fn busy(&self, instr: Instr) -> Option<CoreNext>
         requires { HasRegisters instr }
         ensures { MatchOption result (busy_register self.now.waits instr ≡ None)
-            (λ next. (blocks : ℕ) →
-            step_unless_busy blocks self.now instr (busy_register self.now.waits instr)
+            (λ next. (config : CoreConfig) →
+            step_unless_busy config self.now instr (busy_register self.now.waits instr)
             ≡ Stops (seen next)) }
     {
         if !self.waiting {
@@ -107,20 +109,20 @@ impl State {
     }
 
     /// Executes one instruction, or tells where the core stops.
-    fn step(&mut self, program: &Program, fuel: u32, blocks: u32) -> Option<CoreNext>
-        requires size { blocks ≤ 65536 }
+    fn step(&mut self, program: &Program, config: CoreConfig) -> Option<CoreNext>
+        requires size { config.blocks ≤ 65536 }
         requires ended { self.old.ended ≡ None }
         requires raced { self.old.raced ≡ None }
         ensures cases { let step = core_step program.now config self.old
             in MatchOption result (step ≡ Retires self.new)
             (λ next. (self.new ≡ self.old) × (step ≡ Stops (seen next))) }
         ensures counts { IfNone result
-            ((self.old.retired < fuel) × (self.new.retired ≡ self.old.retired + 1)) }
+            ((self.old.retired < config.fuel) × (self.new.retired ≡ self.old.retired + 1)) }
         ensures runs_on { IfNone result ((self.new.ended ≡ None) × (self.new.raced ≡ None)) }
         ensures asks { IfSome result (λ next. IsTrue (is_asking next) →
-            IsSome (instr_at program.now self.old.pc) × (self.old.retired < fuel)) }
+            IsSome (instr_at program.now self.old.pc) × (self.old.retired < config.fuel)) }
     {
-        if self.retired >= fuel {
+        if self.retired >= config.fuel {
             return Some(CoreNext::Call(Call::End {
                 kind: EndKind::Fuel,
             }));
@@ -131,7 +133,7 @@ impl State {
         if let Some(busy) = self.busy(instr) {
             return Some(busy);
         }
-        match execute(self.pc, &self.registers, instr, blocks) {
+        match execute(self.pc, &self.registers, instr, config) {
             Effect::Writes { register, value } => {
                 self.registers[register as usize] = value;
                 self.pc += 1;
@@ -144,12 +146,12 @@ impl State {
     }
 
     /// Executes instructions up to the next call, and tells what the core does next.
-    pub fn run(&mut self, program: &Program, fuel: u32, blocks: u32) -> CoreNext
-        requires { blocks ≤ 65536 }
+    pub fn run(&mut self, program: &Program, config: CoreConfig) -> CoreNext
+        requires { config.blocks ≤ 65536 }
         ensures stop { self.new ≡ at_stop program.now config self.old }
         ensures next { seen result ≡ next_of program.now config self.old }
         ensures asks { IsTrue (is_asking result) →
-            IsSome (instr_at program.now self.new.pc) × (self.new.retired < fuel) }
+            IsSome (instr_at program.now self.new.pc) × (self.new.retired < config.fuel) }
     {
         if let Some(kind) = self.ended {
             return CoreNext::Ended(kind);
@@ -158,7 +160,7 @@ impl State {
             return CoreNext::Call(Call::End { kind });
         }
         loop {
-            if let Some(next) = self.step(program, fuel, blocks) {
+            if let Some(next) = self.step(program, config) {
                 return next;
             }
         }

@@ -1,22 +1,10 @@
 -- One claim changes: which lane has what, and how many.
 use Rattle.std.proofs.Common.{◌≡◌, ℕ, zero, suc, ◌+◌, ◌<◌, Bool, true, false, List, [], ◌∷◌, length, get_or, eqb, eqb-true, eq-eqb, refl, sym, ◌∙◌, ap, subst, arith}
-use Rattle.pei_types.specs.declared.identifiers.BlockNo.{BlockNo}
-use Rattle.pei_types.specs.declared.machines.MachineSpec.{MachineSpec}
-use Rattle.pei_types.specs.Blocks.{entry_of, fold_of}
-use Rattle.pei_types.specs.Limits.{log_two}
 use Rattle.pei_types.specs.Recency.{change_at, list_at}
 use Rattle.pei_types.specs.Schedule.{LaneClaim, Free}
-use Rattle.pei_types.proofs.Powers.{power_of_log}
 use Rattle.history_laws.specs.Holding.{claim_at, one, count_in, count_all}
 use Rattle.history_laws.proofs.Lists.{get_or-change_at_same, get_or-change_at_other}
-use Rattle.pei_types.proofs.Groups.{xor_below}
 use Rattle.pei_types.proofs.Lists.{length-change_at}
-
--- ---- entries are in range
-
-pub entry_below : (m : MachineSpec) (b : BlockNo) → entry_of m b < m.directory
-unfolding fold_of
-entry_below m b = subst (λ n. entry_of m b < n) (power_of_log m.directory m.directory_in_limits.1) (xor_below b.0 (log_two m.directory) 32)
 
 -- ---- one place
 

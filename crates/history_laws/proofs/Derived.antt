@@ -1,6 +1,6 @@
 -- What follows where a state and a history agree.
-use Rattle.std.proofs.Common.{ℕ, MatchOption, ◌≡◌, ◌<◌, Bool, true, false, not, ◌&&◌, ◌||◌, if◌then◌else◌, List, [], ◌∷◌, map, filter, find, Option, Some, None, option_map, IsTrue, AllPairs, get_or, refl, sym, ◌∙◌, ap, ap₂, subst, arith, nat_lt, eqb, eqb-true, ltb-true, ltb-false}
-use Rattle.std.specs.List.{list_all}
+use Rattle.std.proofs.Common.{ℕ, MatchOption, ◌≡◌, ◌↔◌, ◌<◌, Bool, true, false, not, ◌&&◌, ◌||◌, if◌then◌else◌, List, [], ◌∷◌, map, filter, find, Option, Some, None, option_map, IsTrue, AllPairs, get_or, refl, sym, ◌∙◌, ap, ap₂, subst, arith, nat_lt, eqb, eqb-true, ltb-true, ltb-false}
+use Rattle.std.specs.List.{list_all, AllByRecursion}
 use Rattle.std.proofs.lemmas.List.Folds.{list_all-map}
 use Rattle.pei_types.specs.declared.identifiers.Actor.{Actor}
 use Rattle.pei_types.specs.declared.events.EventKind.{EventKind}
@@ -27,7 +27,7 @@ use Rattle.std.proofs.Math.Bool.{not-not}
 use Rattle.std.proofs.lemmas.Bool.{and_parts}
 use Rattle.std.proofs.lemmas.Option.{same_Some}
 use Rattle.pei_types.proofs.Identities.{same_pei_refl, same_pei_is}
-use Rattle.pei_types.proofs.Lists.{each_weaker}
+use Rattle.pei_types.proofs.Lists.{all_true, each_weaker}
 
 map_id_of : (o : Option PeiLook) → option_map (λ p. p.id) (option_map as_issued o) ≡ option_map (λ l. l.id) o
 map_id_of None = refl
@@ -62,9 +62,9 @@ active_agrees m s journal g =
     ∙ filter-map (λ p. has_entered journal p.id) as_issued s.peis
     ∙ ap (map as_issued) (filter_agree_each (λ l. has_entered journal l.id) is_past_issue s.peis (each_weaker (IsTracked journal) _ (λ l t. t.entered) s.peis g.tracked))
 
--- every PEI of a core has left where the state has none
-pub all_left_agrees : (m : MachineSpec) (s : State) (journal : List Event) → Agrees m s journal → (c : CoreId) → first_unfinished s c ≡ None → IsTrue (all_left journal c)
-all_left_agrees m s journal g c none =
+-- every PEI of a core has left exactly where the state has none
+all_left_so : (m : MachineSpec) (s : State) (journal : List Event) → Agrees m s journal → (c : CoreId) → first_unfinished s c ≡ None → IsTrue (all_left journal c)
+all_left_so m s journal g c none =
     ap (list_all (λ p. not (same_core p.id.core c))) g.unfinished
     ∙ list_all-map (λ p. not (same_core p.id.core c)) as_issued s.peis
     ∙ all_in (λ l. not (same_core l.id.core c)) s.peis (λ l i. ap not (find_None (λ k. same_core k.id.core c) s.peis l (no_id (find (λ k. same_core k.id.core c) s.peis) none) i))
@@ -72,6 +72,21 @@ all_left_agrees m s journal g c none =
     no_id : (o : Option PeiLook) → option_map (λ l. l.id) o ≡ None → o ≡ None
     no_id None h = refl
     no_id (Some l) h = absurd (cc h)
+
+none_left_so : (m : MachineSpec) (s : State) (journal : List Event) → Agrees m s journal → (c : CoreId) → IsTrue (all_left journal c) → first_unfinished s c ≡ None
+none_left_so m s journal g c left = by (find (λ k. same_core k.id.core c) s.peis) refl
+  where
+    each : AllByRecursion (λ l. not (same_core l.id.core c) ≡ true) s.peis
+    each = all_true (λ l. not (same_core l.id.core c)) s.peis (sym (ap (list_all (λ p. not (same_core p.id.core c))) g.unfinished ∙ list_all-map (λ p. not (same_core p.id.core c)) as_issued s.peis) ∙ left)
+
+    by : (o : Option PeiLook) → find (λ k. same_core k.id.core c) s.peis ≡ o → option_map (λ l. l.id) (find (λ k. same_core k.id.core c) s.peis) ≡ None
+    by None e = ap (option_map (λ l. l.id)) e
+    by (Some l) e =
+        let seen = find_Some (λ k. same_core k.id.core c) s.peis l e
+        in absurd (cc (sym (each_of (λ l. not (same_core l.id.core c) ≡ true) s.peis l each seen.0) ∙ ap not seen.1))
+
+pub all_left_agrees : (m : MachineSpec) (s : State) (journal : List Event) → Agrees m s journal → (c : CoreId) → (first_unfinished s c ≡ None) ↔ IsTrue (all_left journal c)
+all_left_agrees m s journal g c = (all_left_so m s journal g c, none_left_so m s journal g c)
 
 -- a PEI that the state has is tracked
 pub look_tracked : (m : MachineSpec) (s : State) (journal : List Event) → Agrees m s journal → (l : PeiLook) → In l s.peis → IsTracked journal l
@@ -147,6 +162,24 @@ fence_ends_rightly m s journal g c h =
     by : (p : Pei) → In p (issued_peis (before_fence c journal)) → (w : Bool) → is_writer p.op ≡ w → (not w || has_left journal p.id) ≡ true
     by p i true e = (fence_done m s journal g c h).1 p i e
     by p i false e = refl
+
+-- a fence that is on waits for none where each writer issued before it began has left
+fence_waits_none : (m : MachineSpec) (s : State) (journal : List Event) → Agrees m s journal → (c : CoreId) → fence_is_on c journal ≡ true → IsTrue (earlier_writers_left journal c) → fence_of s c ≡ Some []
+fence_waits_none m s journal g c on left =
+    g.fences c ∙ ap (λ b. if b then Some (writers_awaited c journal) else None) on
+    ∙ ap (λ ps. Some (map (λ p. p.id) ps)) (none_waits (issued_peis (before_fence c journal)) (all_true (λ p. not (is_writer p.op) || has_left journal p.id) (issued_peis (before_fence c journal)) left))
+  where
+    none_waits : (ps : List Pei) → AllByRecursion (λ p. (not (is_writer p.op) || has_left journal p.id) ≡ true) ps → filter (λ p. is_writer p.op) (filter (λ p. not (has_left journal p.id)) ps) ≡ []
+    none_waits [] h = refl
+    none_waits (p ∷ ps) h = by (has_left journal p.id) (is_writer p.op) refl refl (none_waits ps h.1)
+      where
+        by : (b w : Bool) → has_left journal p.id ≡ b → is_writer p.op ≡ w → filter (λ p. is_writer p.op) (filter (λ p. not (has_left journal p.id)) ps) ≡ [] → filter (λ p. is_writer p.op) (filter (λ p. not (has_left journal p.id)) (p ∷ ps)) ≡ []
+        by true w e f rest = rw e rest
+        by false false e f rest = rw (e, f) rest
+        by false true e f rest = absurd (cc (sym h.0 ∙ ap₂ (λ y z. not y || z) f e))
+
+pub fence_agrees : (m : MachineSpec) (s : State) (journal : List Event) → Agrees m s journal → (c : CoreId) → fence_is_on c journal ≡ true → (fence_of s c ≡ Some []) ↔ IsTrue (earlier_writers_left journal c)
+fence_agrees m s journal g c on = (fence_ends_rightly m s journal g c, fence_waits_none m s journal g c on)
 
 -- ---- from the history to the state
 

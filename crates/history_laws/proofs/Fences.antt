@@ -1,6 +1,6 @@
 -- What fences leave behind, after one more event.
 use Rattle.std.proofs.Common.{◌≡◌, ◌⊎◌, inl, inr, Bool, true, false, not, ◌&&◌, ◌||◌, if◌then◌else◌, List, [], ◌∷◌, ◌++◌, filter, Option, Some, None, is_none, IsTrue, refl, sym, ◌∙◌, ap, subst}
-use Rattle.std.specs.List.{list_any, cons_option}
+use Rattle.std.specs.List.{list_any, list_all, cons_option}
 use Rattle.std.proofs.lemmas.List.{append_assoc, append-nil, same_from_push}
 use Rattle.std.proofs.lemmas.List.Elements.{filter-append}
 use Rattle.pei_types.specs.declared.identifiers.Actor.{Actor}
@@ -13,6 +13,7 @@ use Rattle.pei_types.specs.declared.events.EventKind.TheVariants as event
 use Rattle.pei_types.specs.declared.machines.MachineSpec.{MachineSpec}
 use Rattle.pei_types.specs.Blocks.{same_core}
 use Rattle.pei_types.specs.Coherence.{State, fence_of}
+use Rattle.pei_types.specs.Fence.{earlier_writers_left}
 use Rattle.pei_types.specs.Guard.{waits_for_none}
 use Rattle.pei_types.specs.History.{Pei, issued_peis, pei_issued_by, has_left, begins_fence, ends_fence, before_fence}
 use Rattle.pei_types.specs.Operation.{is_writer}
@@ -22,10 +23,11 @@ use Rattle.history_laws.specs.Fences.{Settles, fences_rightly}
 use Rattle.history_laws.proofs.Lists.{any_push, or_parts_cases, in_filter, filter_in}
 use Rattle.history_laws.proofs.Grows.{issued_kept, issued_more, fence_is_on-push, before_fence_kept, before_fence_here}
 use Rattle.history_laws.proofs.Agree.{left_stays}
-use Rattle.history_laws.proofs.Derived.{fence_done}
+use Rattle.history_laws.proofs.Derived.{fence_done, fence_ends_rightly}
 use Rattle.std.proofs.Math.Bool.{or-false, and-false}
 use Rattle.std.proofs.lemmas.Bool.{and_parts}
 use Rattle.pei_types.proofs.Identities.{same_core_is}
+use Rattle.pei_types.proofs.Lists.{all_true, true_all, each_weaker}
 
 -- ---- a part of a journal ends where the journal does
 
@@ -54,6 +56,27 @@ behind_ends journal front rest e x same = by (ends_in rest)
 pub on_before : (c : CoreId) (journal : List Event) (e : Event) → begins_fence c e ≡ false → fence_is_on c (journal ++ e ∷ []) ≡ true → fence_is_on c journal ≡ true
 on_before c journal e begins h = (and_parts (fence_is_on c journal) (not (ends_fence c e)) (subst (λ b. (b || fence_is_on c journal && not (ends_fence c e)) ≡ true) begins (sym (fence_is_on-push c journal e) ∙ h))).0
 
+-- a fence that is off after an event that ends none was off before
+off_before : (c : CoreId) (journal : List Event) (e : Event) → ends_fence c e ≡ false → fence_is_on c (journal ++ e ∷ []) ≡ false → fence_is_on c journal ≡ false
+off_before c journal e ends h = by (begins_fence c e) (fence_is_on c journal) refl (subst (λ b. (begins_fence c e || fence_is_on c journal && not b) ≡ false) ends (sym (fence_is_on-push c journal e) ∙ h))
+  where
+    by : (b on : Bool) → fence_is_on c journal ≡ on → (b || on && true) ≡ false → fence_is_on c journal ≡ false
+    by b false e' k = e'
+    by true true e' k = absurd (cc k)
+    by false true e' k = absurd (cc k)
+
+-- writers that have left before a fence began have done so after an event that begins none
+over_kept : (c : CoreId) (journal : List Event) (e : Event) → begins_fence c e ≡ false → IsTrue (earlier_writers_left journal c) → IsTrue (earlier_writers_left (journal ++ e ∷ []) c)
+over_kept c journal e begins h =
+    ap (λ before. list_all (λ p. not (is_writer p.op) || has_left (journal ++ e ∷ []) p.id) (issued_peis before)) (before_fence_kept c journal e begins)
+    ∙ true_all (λ p. not (is_writer p.op) || has_left (journal ++ e ∷ []) p.id) (issued_peis (before_fence c journal))
+    (each_weaker (λ p. (not (is_writer p.op) || has_left journal p.id) ≡ true) _ (λ p. later p (not (is_writer p.op))) (issued_peis (before_fence c journal))
+    (all_true (λ p. not (is_writer p.op) || has_left journal p.id) (issued_peis (before_fence c journal)) h))
+  where
+    later : (p : Pei) (b : Bool) → (b || has_left journal p.id) ≡ true → (b || has_left (journal ++ e ∷ []) p.id) ≡ true
+    later p true k = refl
+    later p false k = left_stays journal e p.id k
+
 -- What has settled stays so after an event that ends no fence.
 settled_kept : (journal : List Event) (x : Event) → ((c : CoreId) → ends_fence c x ≡ false) → Settles journal → (c : CoreId) (front rest : List Event) (e : Event) (p : Pei) → journal ++ x ∷ [] ≡ front ++ e ∷ rest → pei_issued_by e.actor e.kind ≡ Some p → same_core p.id.core c ≡ true → is_writer p.op ≡ true → list_any (ends_fence c) rest ≡ true → has_left (journal ++ x ∷ []) p.id ≡ true
 settled_kept journal x ends st c front rest e p same issue own writes ended = by (behind_ends journal front rest e x same)
@@ -71,6 +94,7 @@ settles_kept journal x none begins ends st =
     record {
       still = λ c on. ap (filter (λ p. same_core p.id.core c)) (issued_kept journal x none) ∙ st.still c (on_before c journal x (begins c) on) ∙ ap (issued_by c) (sym (before_fence_kept c journal x (begins c)));
       settled = settled_kept journal x ends st;
+      over = λ c off. over_kept c journal x (begins c) (st.over c (off_before c journal x (ends c) off));
     }
 
 -- a fence begins
@@ -79,10 +103,18 @@ settles_begin journal a st =
     record {
       still = λ c on. ap (filter (λ p. same_core p.id.core c)) (issued_kept journal x refl) ∙ by c (same_core a.core c) refl on;
       settled = settled_kept journal x (λ c. and-false (same_core a.core c)) st;
+      over = λ c off. ends c (same_core a.core c) refl off;
     }
   where
     x : Event
     x = record { actor = a; kind = event.FenceBegin }
+
+    ends : (c : CoreId) (b : Bool) → same_core a.core c ≡ b → fence_is_on c (journal ++ x ∷ []) ≡ false → IsTrue (earlier_writers_left (journal ++ x ∷ []) c)
+    ends c true h off = absurd (cc (sym (fence_is_on-push c journal x ∙ ap (λ b. b || fence_is_on c journal && not (ends_fence c x)) (begun c h)) ∙ off))
+      where
+        begun : (c : CoreId) → same_core a.core c ≡ true → begins_fence c x ≡ true
+        begun c h = rw h refl
+    ends c false h off = over_kept c journal x (rw h refl) (st.over c (off_before c journal x (and-false (same_core a.core c)) off))
 
     by : (c : CoreId) (b : Bool) → same_core a.core c ≡ b → fence_is_on c (journal ++ x ∷ []) ≡ true → issued_by c journal ≡ issued_by c (before_fence c (journal ++ x ∷ []))
     by c true h on = ap (issued_by c) (sym (before_fence_here c journal x (rw h refl)))
@@ -99,10 +131,17 @@ settles_end m s journal a waits g st =
     record {
       still = λ c on. ap (filter (λ p. same_core p.id.core c)) (issued_kept journal x refl) ∙ st.still c (on_before c journal x (and-false (same_core a.core c)) on) ∙ ap (issued_by c) (sym (before_fence_kept c journal x (and-false (same_core a.core c))));
       settled = settled;
+      over = λ c off. over c (same_core a.core c) refl off;
     }
   where
     x : Event
     x = record { actor = a; kind = event.FenceEnd }
+
+    over : (c : CoreId) (b : Bool) → same_core a.core c ≡ b → fence_is_on c (journal ++ x ∷ []) ≡ false → IsTrue (earlier_writers_left (journal ++ x ∷ []) c)
+    over c true h off =
+        over_kept c journal x (and-false (same_core a.core c))
+        (subst (λ d. IsTrue (earlier_writers_left journal d)) (same_core_is a.core c h) (fence_ends_rightly m s journal g a.core waits))
+    over c false h off = over_kept c journal x (and-false (same_core a.core c)) (st.over c (off_before c journal x (rw h refl) off))
 
     split : (front rest : List Event) (e : Event) (p : Pei) → pei_issued_by e.actor e.kind ≡ Some p → In p (issued_peis (front ++ e ∷ rest))
     split [] rest e p h = rw h (inl refl)
@@ -137,6 +176,7 @@ settles_issue journal x p issue own begins ends off st =
     record {
       still = λ c on. by c (same_core p.id.core c) refl (on_before c journal x (begins c) on);
       settled = settled_kept journal x ends st;
+      over = λ c off'. over_kept c journal x (begins c) (st.over c (off_before c journal x (ends c) off'));
     }
   where
     by : (c : CoreId) (b : Bool) → same_core p.id.core c ≡ b → fence_is_on c journal ≡ true → issued_by c (journal ++ x ∷ []) ≡ issued_by c (before_fence c (journal ++ x ∷ []))
@@ -177,6 +217,7 @@ settles_at_start =
     record {
       still = λ c on. refl;
       settled = λ c front rest e p same. absurd (no_event front rest e same);
+      over = λ c off. refl;
     }
   where
     no_event : (front rest : List Event) (e : Event) → [] ≡ front ++ e ∷ rest → ⊥

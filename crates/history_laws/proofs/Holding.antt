@@ -1,5 +1,5 @@
 -- The directory's entries count the lanes that hold them, after each step.
-use Rattle.std.proofs.Common.{◌≡◌, ◌⊎◌, inl, inr, ℕ, ◌+◌, ◌<◌, ◌≤◌, Bool, true, false, not, ◌&&◌, if◌then◌else◌, List, [], ◌∷◌, ◌++◌, map, length, find, Some, None, option_map, get_or, eqb, eqb-true, eq-eqb, nat_lt, nat_le, ltb-true, leb-true, IsTrue, refl, sym, ◌∙◌, ap, ap₂, subst, arith}
+use Rattle.std.proofs.Common.{◌≡◌, ◌⊎◌, inl, inr, ℕ, ◌+◌, ◌-◌, ◌<◌, ◌≤◌, Bool, true, false, not, ◌&&◌, if◌then◌else◌, List, [], ◌∷◌, ◌++◌, map, length, find, Some, None, option_map, get_or, eqb, eqb-true, eq-eqb, nat_lt, nat_le, ltb-true, leb-true, IsTrue, refl, sym, ◌∙◌, ap, ap₂, subst, arith}
 use Rattle.std.proofs.lemmas.List.Folds.{find-append}
 use Rattle.pei_types.specs.declared.identifiers.Actor.{Actor}
 use Rattle.pei_types.specs.declared.identifiers.CoreId.{CoreId}
@@ -7,6 +7,7 @@ use Rattle.pei_types.specs.declared.identifiers.Lane.{Lane}
 use Rattle.pei_types.specs.declared.identifiers.PeiId.{PeiId}
 use Rattle.pei_types.specs.declared.inflight_looks.PeiLook.{PeiLook}
 use Rattle.pei_types.specs.declared.inflight_looks.Phase.{Phase}
+use Rattle.pei_types.specs.declared.inflight_looks.Phase.TheVariants as phase
 use Rattle.pei_types.specs.declared.events.EventKind.TheVariants as event
 use Rattle.pei_types.specs.declared.machines.MachineSpec.{MachineSpec}
 use Rattle.pei_types.specs.declared.operations.Mode.{Mode}
@@ -14,17 +15,20 @@ use Rattle.pei_types.specs.declared.operations.Mode.TheVariants as mode
 use Rattle.pei_types.specs.Blocks.{entry_of, same_core, same_lane, same_pei}
 use Rattle.pei_types.specs.Calls.{is_actor_of}
 use Rattle.pei_types.specs.Claims.{Claims, no_claims, with_announcement, is_granted, with_claim, without_claim}
-use Rattle.pei_types.specs.Coherence.{State, look_in, with_phase, pei_id}
+use Rattle.pei_types.specs.Coherence.{State, look_in, is_phase, with_phase, pei_id}
 use Rattle.pei_types.specs.Operation.{mode_of}
 use Rattle.pei_types.specs.Recency.{change_at, list_at, without}
 use Rattle.pei_types.specs.Schedule.{LaneClaim, Free, Held, Spent, Announced, after_leave}
 use Rattle.history_laws.specs.Members.{In}
 use Rattle.history_laws.specs.Tracking.{is_past_issue}
-use Rattle.history_laws.specs.Holding.{claim_at, holds_entry, same_mode, one, counted, Holding}
+use Rattle.history_laws.specs.Entering.{LanesApart}
+use Rattle.history_laws.specs.Holding.{claim_at, holds_entry, same_mode, one, counted, waits_on, Holding}
 use Rattle.history_laws.proofs.Lists.{get_or-change_at_same, get_or-change_at_other, find_filter, find_Some, find_None, find-map, find_agree, each_in, in_map, in_filter, in_push}
 use Rattle.history_laws.proofs.Agree.{moved}
-use Rattle.history_laws.proofs.Counting.{changed, claim_here, claim_other, length-changed, count_change, count_some, entry_below}
+use Rattle.history_laws.proofs.Counting.{changed, claim_here, claim_other, length-changed, count_change, count_some}
 use Rattle.std.proofs.lemmas.Bool.{not-true, and_parts}
+use Rattle.std.proofs.lemmas.Option.{same_Some}
+use Rattle.pei_types.proofs.Groups.{entry_below}
 use Rattle.pei_types.proofs.Lists.{length-change_at}
 use Rattle.pei_types.proofs.Identities.{same_pei_refl, same_pei_is}
 use Rattle.pei_types.proofs.Tests.{eqb_sym}
@@ -77,6 +81,8 @@ pub record Changes (m : MachineSpec) (s : State) (entries entries' : List Claims
   pub lone_first : (e : ℕ) (k : Mode) (d n : ℕ) → holds_entry e mode.Writer y ≡ true → holds_entry e k (claim_at claims d n) ≡ true → ⊥
   pub lone_second : (e : ℕ) (k : Mode) (d n : ℕ) → holds_entry e k y ≡ true → holds_entry e mode.Writer (claim_at claims d n) ≡ true → ⊥
   pub held : (e : ℕ) (k : Mode) → y ≡ Held e k → (p : PeiLook) × (look_in s a.core a.lane ≡ Some p) × (entry_of m p.block ≡ e) × (mode_of p.op ≡ k)
+  pub waiting : (e : ℕ) → e < m.directory → (get_or entries' e no_claims).waiting + one (waits_on e (claim_at claims a.core.0 a.lane.0)) ≡ (get_or entries e no_claims).waiting + one (waits_on e y)
+  pub announced : (e : ℕ) → y ≡ Announced e → (p : PeiLook) × (look_in s a.core a.lane ≡ Some p) × (p.phase ≡ phase.Issued) × (entry_of m p.block ≡ e) × (mode_of p.op ≡ mode.Writer)
 
 pub holding_changed : (m : MachineSpec) (s : State) (entries entries' : List Claims) (claims : List (List LaneClaim)) (a : Actor) (y : LaneClaim) → IsTrue (is_actor_of m a) → Changes m s entries entries' claims a y → Holding m s entries claims → Holding m s entries' (changed claims a.core.0 a.lane.0 (λ _. y))
 holding_changed m s entries entries' claims a y actor ch h =
@@ -88,6 +94,8 @@ holding_changed m s entries entries' claims a y actor ch h =
       lone = lone;
       active = active;
       held = held;
+      waiting = λ e below. same_count (get_or entries' e no_claims).waiting (get_or entries e no_claims).waiting _ _ _ _ (ch.waiting e below) (h.waiting e below) (count_change (waits_on e) claims a.core.0 a.lane.0 (λ _. y) w.core w.lane);
+      announced = announced;
       apart = h.apart;
     }
   where
@@ -130,57 +138,90 @@ holding_changed m s entries entries' claims a y actor ch h =
             in (r.0, ap₂ (look_in s) (sym (core_is a.core b.core p.0)) (sym (lane_is a.lane b.lane p.1)) ∙ r.1, r.2, r.3)
         by (inr p) = h.held b e k (sym (other b.core.0 b.lane.0 p) ∙ g)
 
+    announced : (b : Actor) (e : ℕ) → claim_at (changed claims a.core.0 a.lane.0 (λ _. y)) b.core.0 b.lane.0 ≡ Announced e → (p : PeiLook) × (look_in s b.core b.lane ≡ Some p) × (p.phase ≡ phase.Issued) × (entry_of m p.block ≡ e) × (mode_of p.op ≡ mode.Writer)
+    announced b e g = by (place_cases a.core.0 a.lane.0 b.core.0 b.lane.0)
+      where
+        by : ((a.core.0 ≡ b.core.0) × (a.lane.0 ≡ b.lane.0)) ⊎ ((a.core.0 ≡ b.core.0) × (a.lane.0 ≡ b.lane.0) → ⊥) → (p : PeiLook) × (look_in s b.core b.lane ≡ Some p) × (p.phase ≡ phase.Issued) × (entry_of m p.block ≡ e) × (mode_of p.op ≡ mode.Writer)
+        by (inl p) =
+            let r = ch.announced e (sym (here b.core.0 b.lane.0 p) ∙ g)
+            in (r.0, ap₂ (look_in s) (sym (core_is a.core b.core p.0)) (sym (lane_is a.lane b.lane p.1)) ∙ r.1, r.2, r.3, r.4)
+        by (inr p) = h.announced b e (sym (other b.core.0 b.lane.0 p) ∙ g)
+
 -- ---- entries
 
 pub entry_here : (entries : List Claims) (e : ℕ) (f : Claims → Claims) → e < length entries → get_or (change_at entries e f) e no_claims ≡ f (get_or entries e no_claims)
 entry_here entries e f h = get_or-change_at_same entries e f no_claims h
 
--- one entry changes its counts
-pub counts_changed : (m : MachineSpec) (entries : List Claims) (at : ℕ) (f : Claims → Claims) (e : ℕ) (k : Mode) (x y : LaneClaim) → length entries ≡ m.directory → e < m.directory → (at ≡ e → counted k (f (get_or entries e no_claims)) + one (holds_entry e k x) ≡ counted k (get_or entries e no_claims) + one (holds_entry e k y)) → ((at ≡ e → ⊥) → holds_entry e k x ≡ holds_entry e k y) → counted k (get_or (change_at entries at f) e no_claims) + one (holds_entry e k x) ≡ counted k (get_or entries e no_claims) + one (holds_entry e k y)
-counts_changed m entries at f e k x y size below same differ = by (eqb at e) refl
+-- one entry changes a count
+pub count_changed : (m : MachineSpec) (entries : List Claims) (at : ℕ) (f : Claims → Claims) (e : ℕ) (count : Claims → ℕ) (test : LaneClaim → Bool) (x y : LaneClaim) → length entries ≡ m.directory → e < m.directory → (at ≡ e → count (f (get_or entries e no_claims)) + one (test x) ≡ count (get_or entries e no_claims) + one (test y)) → ((at ≡ e → ⊥) → test x ≡ test y) → count (get_or (change_at entries at f) e no_claims) + one (test x) ≡ count (get_or entries e no_claims) + one (test y)
+count_changed m entries at f e count test x y size below same differ = by (eqb at e) refl
   where
-    by : (b : Bool) → eqb at e ≡ b → counted k (get_or (change_at entries at f) e no_claims) + one (holds_entry e k x) ≡ counted k (get_or entries e no_claims) + one (holds_entry e k y)
+    by : (b : Bool) → eqb at e ≡ b → count (get_or (change_at entries at f) e no_claims) + one (test x) ≡ count (get_or entries e no_claims) + one (test y)
     by true q =
         let p : at ≡ e = eqb-true at e q
-        in ap (λ c. counted k c + one (holds_entry e k x)) (ap (λ z. get_or (change_at entries z f) e no_claims) p ∙ entry_here entries e f (subst (λ n. e < n) (sym size) below)) ∙ same p
+        in ap (λ c. count c + one (test x)) (ap (λ z. get_or (change_at entries z f) e no_claims) p ∙ entry_here entries e f (subst (λ n. e < n) (sym size) below)) ∙ same p
     by false q =
-        ap₂ (λ c b. counted k c + one b) (get_or-change_at_other entries at e f no_claims (λ p. apart p)) (differ (λ p. apart p))
+        ap₂ (λ c b. count c + one b) (get_or-change_at_other entries at e f no_claims (λ p. apart p)) (differ (λ p. apart p))
       where
         apart : at ≡ e → ⊥
         apart p = absurd (cc (sym q ∙ eq-eqb at e p))
 
+differs : (at e : ℕ) → (at ≡ e → ⊥) → eqb at e ≡ false
+differs at e q = go (eqb at e) refl
+  where
+    go : (b : Bool) → eqb at e ≡ b → eqb at e ≡ false
+    go true u = absurd (q (eqb-true at e u))
+    go false u = u
+
 -- ---- the three steps of a lane
 
--- a lane that holds nothing
-abbrev pub free_like : LaneClaim → Bool
-free_like Free = true
-free_like Announced = true
-free_like _ = false
+-- a lane that may try for its entry: a reader's at once, a writer's once it has announced itself
+abbrev pub may_try : Mode → LaneClaim → Bool
+may_try mode.Reader Free = true
+may_try k (Announced at) = true
+may_try _ _ = false
 
-holds_none : (e : ℕ) (k : Mode) (x : LaneClaim) → free_like x ≡ true → holds_entry e k x ≡ false
-holds_none e k Free h = refl
-holds_none e k Announced h = refl
-holds_none e k (Held at how) h = absurd (cc h)
-holds_none e k (Spent at how) h = absurd (cc h)
+holds_none : (e : ℕ) (k how : Mode) (x : LaneClaim) → may_try how x ≡ true → holds_entry e k x ≡ false
+holds_none e k how Free h = refl
+holds_none e k how (Announced at) h = refl
+holds_none e k mode.Reader (Held at mode) h = absurd (cc h)
+holds_none e k mode.Writer (Held at mode) h = absurd (cc h)
+holds_none e k mode.Reader (Spent at mode) h = absurd (cc h)
+holds_none e k mode.Writer (Spent at mode) h = absurd (cc h)
 
 counted_announced : (k : Mode) (c : Claims) → counted k (with_announcement c) ≡ counted k c
 counted_announced mode.Reader c = refl
 counted_announced mode.Writer c = refl
 
 -- a writer announces itself
-pub holding_announced : (m : MachineSpec) (s : State) (entries : List Claims) (claims : List (List LaneClaim)) (a : Actor) (at : ℕ) → IsTrue (is_actor_of m a) → claim_at claims a.core.0 a.lane.0 ≡ Free → Holding m s entries claims → Holding m s (change_at entries at with_announcement) (changed claims a.core.0 a.lane.0 (λ _. Announced))
-holding_announced m s entries claims a at actor free h =
-    holding_changed m s entries (change_at entries at with_announcement) claims a Announced actor
+pub holding_announced : (m : MachineSpec) (s : State) (entries : List Claims) (claims : List (List LaneClaim)) (a : Actor) (p : PeiLook) → IsTrue (is_actor_of m a) → look_in s a.core a.lane ≡ Some p → p.phase ≡ phase.Issued → mode_of p.op ≡ mode.Writer → claim_at claims a.core.0 a.lane.0 ≡ Free → Holding m s entries claims → Holding m s (change_at entries (entry_of m p.block) with_announcement) (changed claims a.core.0 a.lane.0 (λ _. Announced (entry_of m p.block)))
+holding_announced m s entries claims a p actor here issued writes free h =
+    holding_changed m s entries (change_at entries at with_announcement) claims a (Announced at) actor
     (record {
       not_held = λ e k q. absurd (cc (sym free ∙ q));
       size = length-change_at entries at with_announcement;
       counts =
-          λ e k below. counts_changed m entries at with_announcement e k (claim_at claims a.core.0 a.lane.0) Announced h.size below
-          (λ p. ap₂ (λ n x. n + one (holds_entry e k x)) (counted_announced k (get_or entries e no_claims)) free) (λ p. ap (holds_entry e k) free);
+          λ e k below. count_changed m entries at with_announcement e (counted k) (holds_entry e k) (claim_at claims a.core.0 a.lane.0) (Announced at) h.size below
+          (λ q. ap₂ (λ n x. n + one (holds_entry e k x)) (counted_announced k (get_or entries e no_claims)) free) (λ q. ap (holds_entry e k) free);
       lone_first = λ e k d n q. absurd (cc q);
       lone_second = λ e k d n q. absurd (cc q);
       held = λ e k q. absurd (cc q);
+      waiting =
+          λ e below. count_changed m entries at with_announcement e (λ c. c.waiting) (waits_on e) (claim_at claims a.core.0 a.lane.0) (Announced at) h.size below
+          (λ q. ap (λ x. (get_or entries e no_claims).waiting + 1 + one (waits_on e x)) free ∙ one_more (get_or entries e no_claims).waiting ∙ ap (λ b. (get_or entries e no_claims).waiting + one b) (sym (eq-eqb at e q)))
+          (λ q. ap (waits_on e) free ∙ sym (differs at e q));
+      announced = λ e q. (p, here, issued, ap of_entry q, writes);
     }) h
+  where
+    at : ℕ
+    at = entry_of m p.block
+
+    of_entry : LaneClaim → ℕ
+    of_entry (Announced e) = e
+    of_entry _ = entry_of m p.block
+
+    one_more : (n : ℕ) → n + 1 + 0 ≡ n + 1
+    one_more n = omega arith
 
 counted_with : (k how : Mode) (c : Claims) → counted k (with_claim c how) ≡ counted k c + one (same_mode how k)
 counted_with mode.Reader mode.Reader c = refl
@@ -203,17 +244,19 @@ granted_all c mode.Reader h = eqb-true c.readers 0 (and_parts (eqb c.readers 0) 
 granted_all c mode.Writer h = eqb-true c.writers 0 (and_parts (eqb c.readers 0) (eqb c.writers 0) h).1
 
 -- a claim is granted
-pub holding_granted : (m : MachineSpec) (s : State) (entries : List Claims) (claims : List (List LaneClaim)) (a : Actor) (p : PeiLook) → IsTrue (is_actor_of m a) → look_in s a.core a.lane ≡ Some p → free_like (claim_at claims a.core.0 a.lane.0) ≡ true → is_granted (get_or entries (entry_of m p.block) no_claims) (mode_of p.op) ≡ true → Holding m s entries claims → Holding m s (change_at entries (entry_of m p.block) (λ c. with_claim c (mode_of p.op))) (changed claims a.core.0 a.lane.0 (λ _. Held (entry_of m p.block) (mode_of p.op)))
+pub holding_granted : (m : MachineSpec) (s : State) (entries : List Claims) (claims : List (List LaneClaim)) (a : Actor) (p : PeiLook) → IsTrue (is_actor_of m a) → look_in s a.core a.lane ≡ Some p → may_try (mode_of p.op) (claim_at claims a.core.0 a.lane.0) ≡ true → is_granted (get_or entries (entry_of m p.block) no_claims) (mode_of p.op) ≡ true → Holding m s entries claims → Holding m s (change_at entries (entry_of m p.block) (λ c. with_claim c (mode_of p.op))) (changed claims a.core.0 a.lane.0 (λ _. Held (entry_of m p.block) (mode_of p.op)))
 holding_granted m s entries claims a p actor here free granted h =
     holding_changed m s entries (change_at entries at (λ c. with_claim c how)) claims a (Held at how) actor
     (record {
-      not_held = λ e k q. absurd (cc (sym (ap free_like q) ∙ free));
+      not_held = λ e k q. tries_held how e k (ap (may_try how) (sym q) ∙ free);
       size = length-change_at entries at (λ c. with_claim c how);
       counts =
-          λ e k below. counts_changed m entries at (λ c. with_claim c how) e k x (Held at how) h.size below (λ q. counts e k q) (λ q. holds_none e k x free ∙ sym (ap (λ b. b && same_mode how k) (differ e q)));
+          λ e k below. count_changed m entries at (λ c. with_claim c how) e (counted k) (holds_entry e k) x (Held at how) h.size below (λ q. counts e k q) (λ q. holds_none e k how x free ∙ sym (ap (λ b. b && same_mode how k) (differs at e q)));
       lone_first = λ e k d n q g. none_holds e k d n (first e q) g;
       lone_second = λ e k d n q g. no_writer e d n (entry e k q) g;
       held = λ e k q. (p, here, ap of_entry q, ap of_mode q);
+      waiting = λ e below. count_changed m entries at (λ c. with_claim c how) e (λ c. c.waiting) (waits_on e) x (Held at how) h.size below (λ q. waiting e below q) (λ q. not_waiting e q);
+      announced = λ e q. absurd (cc q);
     }) h
   where
     at : ℕ
@@ -233,16 +276,52 @@ holding_granted m s entries claims a p actor here free granted h =
     of_mode (Held e k) = k
     of_mode _ = mode_of p.op
 
-    differ : (e : ℕ) → (at ≡ e → ⊥) → eqb at e ≡ false
-    differ e q = go (eqb at e) refl
+    tries_held : (k : Mode) (e : ℕ) (k' : Mode) → may_try k (Held e k') ≡ true → ⊥
+    tries_held mode.Reader e k' q = cc q
+    tries_held mode.Writer e k' q = cc q
+
+    -- what a lane waits for is its PEI's entry, as a writer
+    own : (e : ℕ) → x ≡ Announced e → (at ≡ e) × (how ≡ mode.Writer)
+    own e q =
+        let r = h.announced a e q
+        in let same : r.0 ≡ p = same_Some r.0 p (sym r.1 ∙ here)
+        in (ap (λ z. entry_of m z.block) (sym same) ∙ r.3, ap (λ z. mode_of z.op) (sym same) ∙ r.4)
+
+    waiting : (e : ℕ) → e < m.directory → at ≡ e → (with_claim (get_or entries e no_claims) how).waiting + one (waits_on e x) ≡ (get_or entries e no_claims).waiting + 0
+    waiting e below q = by x refl how refl free
       where
-        go : (b : Bool) → eqb at e ≡ b → eqb at e ≡ false
-        go true u = absurd (q (eqb-true at e u))
-        go false u = u
+        c : Claims
+        c = get_or entries e no_claims
+
+        one_less : (n : ℕ) → 0 < n → n - 1 + 1 ≡ n + 0
+        one_less n k = omega (arith, k)
+
+        waits : (i : ℕ) → x ≡ Announced i → waits_on e x ≡ true
+        waits i e' = ap (waits_on e) e' ∙ eq-eqb i e (sym (own i e').0 ∙ q)
+
+        by : (y : LaneClaim) → x ≡ y → (k : Mode) → how ≡ k → may_try k y ≡ true → (with_claim c how).waiting + one (waits_on e x) ≡ c.waiting + 0
+        by Free e' mode.Reader e'' u = ap₂ (λ k z. (with_claim c k).waiting + one (waits_on e z)) e'' e'
+        by Free e' mode.Writer e'' u = absurd (cc u)
+        by (Announced i) e' k e'' u =
+            ap₂ (λ k' b. (with_claim c k').waiting + one b) (own i e').1 (waits i e')
+            ∙ one_less c.waiting (subst (λ n. 0 < n) (sym (h.waiting e below)) (count_some (waits_on e) claims a.core.0 a.lane.0 refl (waits i e')))
+        by (Held i k') e' mode.Reader e'' u = absurd (cc u)
+        by (Held i k') e' mode.Writer e'' u = absurd (cc u)
+        by (Spent i k') e' mode.Reader e'' u = absurd (cc u)
+        by (Spent i k') e' mode.Writer e'' u = absurd (cc u)
+
+    not_waiting : (e : ℕ) → (at ≡ e → ⊥) → waits_on e x ≡ false
+    not_waiting e q = by x refl
+      where
+        by : (y : LaneClaim) → x ≡ y → waits_on e x ≡ false
+        by Free e' = ap (waits_on e) e'
+        by (Announced i) e' = ap (waits_on e) e' ∙ differs i e (λ u. q ((own i e').0 ∙ u))
+        by (Held i k) e' = ap (waits_on e) e'
+        by (Spent i k) e' = ap (waits_on e) e'
 
     counts : (e : ℕ) (k : Mode) → at ≡ e → counted k (with_claim (get_or entries e no_claims) how) + one (holds_entry e k x) ≡ counted k (get_or entries e no_claims) + one (eqb at e && same_mode how k)
     counts e k q =
-        ap₂ (λ n b. n + one b) (counted_with k how (get_or entries e no_claims)) (holds_none e k x free)
+        ap₂ (λ n b. n + one b) (counted_with k how (get_or entries e no_claims)) (holds_none e k how x free)
         ∙ add_none (counted k (get_or entries e no_claims) + one (same_mode how k))
         ∙ ap (λ b. counted k (get_or entries e no_claims) + one (b && same_mode how k)) (sym (eq-eqb at e q))
       where
@@ -294,21 +373,20 @@ holding_released m s entries claims a at how actor spent h =
     (record {
       not_held = λ e k q. absurd (cc (sym spent ∙ q));
       size = length-change_at entries at (λ c. without_claim c how);
-      counts = λ e k below. counts_changed m entries at (λ c. without_claim c how) e k x Free h.size below (λ q. counts e k below q) (λ q. ap (holds_entry e k) spent ∙ ap (λ b. b && same_mode how k) (differ e q));
+      counts = λ e k below. count_changed m entries at (λ c. without_claim c how) e (counted k) (holds_entry e k) x Free h.size below (λ q. counts e k below q) (λ q. ap (holds_entry e k) spent ∙ ap (λ b. b && same_mode how k) (differs at e q));
       lone_first = λ e k d n q. absurd (cc q);
       lone_second = λ e k d n q. absurd (cc q);
       held = λ e k q. absurd (cc q);
+      waiting = λ e below. count_changed m entries at (λ c. without_claim c how) e (λ c. c.waiting) (waits_on e) x Free h.size below (λ q. ap₂ (λ n y. n + one (waits_on e y)) (waiting_kept how (get_or entries e no_claims)) spent) (λ q. ap (waits_on e) spent);
+      announced = λ e q. absurd (cc q);
     }) h
   where
     x : LaneClaim
     x = claim_at claims a.core.0 a.lane.0
 
-    differ : (e : ℕ) → (at ≡ e → ⊥) → eqb at e ≡ false
-    differ e q = go (eqb at e) refl
-      where
-        go : (b : Bool) → eqb at e ≡ b → eqb at e ≡ false
-        go true u = absurd (q (eqb-true at e u))
-        go false u = u
+    waiting_kept : (k : Mode) (c : Claims) → (without_claim c k).waiting ≡ c.waiting
+    waiting_kept mode.Reader c = refl
+    waiting_kept mode.Writer c = refl
 
     holds : (e : ℕ) (k : Mode) → at ≡ e → holds_entry e k x ≡ same_mode how k
     holds e k q = ap (holds_entry e k) spent ∙ ap (λ b. b && same_mode how k) (eq-eqb at e q)
@@ -331,7 +409,8 @@ holding_released m s entries claims a at how actor spent h =
 pub record Follows (m : MachineSpec) (s t : State) (claims : List (List LaneClaim)) : Type 0 where
   pub active : (l : PeiLook) → In l t.peis → is_past_issue l ≡ true → claim_at claims l.id.core.0 l.lane.0 ≡ Held (entry_of m l.block) (mode_of l.op)
   pub looks : (c : CoreId) (l : Lane) (p : PeiLook) → look_in s c l ≡ Some p → (q : PeiLook) × (look_in t c l ≡ Some q) × (q.block ≡ p.block) × (q.op ≡ p.op)
-  pub apart : (p q : PeiLook) → In p t.peis → In q t.peis → same_core p.id.core q.id.core ≡ true → same_lane p.lane q.lane ≡ true → p ≡ q
+  pub waits : (c : CoreId) (l : Lane) (e : ℕ) (p : PeiLook) → claim_at claims c.0 l.0 ≡ Announced e → look_in s c l ≡ Some p → p.phase ≡ phase.Issued → look_in t c l ≡ Some p
+  pub apart : LanesApart t
 
 pub holding_follows : (m : MachineSpec) (s t : State) (entries : List Claims) (claims : List (List LaneClaim)) → Follows m s t claims → Holding m s entries claims → Holding m t entries claims
 holding_follows m s t entries claims f h =
@@ -343,6 +422,8 @@ holding_follows m s t entries claims f h =
       lone = h.lone;
       active = f.active;
       held = λ a e k g. let r = h.held a e k g in let q = f.looks a.core a.lane r.0 r.1 in (q.0, q.1, ap (entry_of m) q.2 ∙ r.2, ap mode_of q.3 ∙ r.3);
+      waiting = h.waiting;
+      announced = λ a e g. let r = h.announced a e g in (r.0, f.waits a.core a.lane e r.0 g r.1 r.2, r.2, r.3, r.4);
       apart = f.apart;
     }
 
@@ -351,6 +432,7 @@ follows_same m s t entries claims same h =
     record {
       active = λ l i. h.active l (subst (In l) same i);
       looks = λ c l p g. (p, ap (find (λ z. same_core z.id.core c && same_lane z.lane l)) same ∙ g, refl, refl);
+      waits = λ c l e p claim g issued. ap (find (λ z. same_core z.id.core c && same_lane z.lane l)) same ∙ g;
       apart = λ p q i j. h.apart p q (subst (In p) same i) (subst (In q) same j);
     }
 
@@ -362,8 +444,8 @@ with_phase_parts id ph l = by (same_pei l.id id)
     by true = (refl, refl, refl, refl)
     by false = (refl, refl, refl, refl)
 
-pub follows_moved : (m : MachineSpec) (s t : State) (entries : List Claims) (claims : List (List LaneClaim)) (id : PeiId) (ph : Phase) → t.peis ≡ map (with_phase id ph) s.peis → ((l : PeiLook) → In l s.peis → is_past_issue (with_phase id ph l) ≡ true → claim_at claims l.id.core.0 l.lane.0 ≡ Held (entry_of m l.block) (mode_of l.op)) → Holding m s entries claims → Follows m s t claims
-follows_moved m s t entries claims id ph same has h = record { active = active; looks = looks; apart = apart }
+pub follows_moved : (m : MachineSpec) (s t : State) (entries : List Claims) (claims : List (List LaneClaim)) (id : PeiId) (ph : Phase) → is_phase ph phase.Issued ≡ false → t.peis ≡ map (with_phase id ph) s.peis → ((l : PeiLook) → In l s.peis → is_past_issue (with_phase id ph l) ≡ true → claim_at claims l.id.core.0 l.lane.0 ≡ Held (entry_of m l.block) (mode_of l.op)) → Holding m s entries claims → Follows m s t claims
+follows_moved m s t entries claims id ph later same has h = record { active = active; looks = looks; waits = waits; apart = apart }
   where
     f : PeiLook → PeiLook
     f = with_phase id ph
@@ -375,17 +457,25 @@ follows_moved m s t entries claims id ph same has h = record { active = active; 
         in subst (λ z. claim_at claims z.id.core.0 z.lane.0 ≡ Held (entry_of m z.block) (mode_of z.op)) (sym x.2)
         (ap₂ (λ d n. claim_at claims d.core.0 n.0) parts.0 parts.1 ∙ has x.0 x.1 (ap is_past_issue (sym x.2) ∙ past) ∙ ap₂ (λ b o. Held (entry_of m b) (mode_of o)) (sym parts.2) (sym parts.3))
 
+    moves : (c : CoreId) (l : Lane) (p : PeiLook) → look_in s c l ≡ Some p → look_in t c l ≡ Some (f p)
+    moves c l p g =
+        ap (find (λ z. same_core z.id.core c && same_lane z.lane l)) same
+        ∙ find-map (λ z. same_core z.id.core c && same_lane z.lane l) f s.peis
+        ∙ ap (option_map f) (find_agree (λ z. same_core (f z).id.core c && same_lane (f z).lane l) (λ z. same_core z.id.core c && same_lane z.lane l) s.peis (each_in _ s.peis (λ z i. ap₂ (λ d n. same_core d.core c && same_lane n l) (with_phase_parts id ph z).0 (with_phase_parts id ph z).1)) ∙ g)
+
     looks : (c : CoreId) (l : Lane) (p : PeiLook) → look_in s c l ≡ Some p → (q : PeiLook) × (look_in t c l ≡ Some q) × (q.block ≡ p.block) × (q.op ≡ p.op)
-    looks c l p g =
-        let parts = with_phase_parts id ph p
-        in (
-          f p,
-          ap (find (λ z. same_core z.id.core c && same_lane z.lane l)) same
-              ∙ find-map (λ z. same_core z.id.core c && same_lane z.lane l) f s.peis
-              ∙ ap (option_map f) (find_agree (λ z. same_core (f z).id.core c && same_lane (f z).lane l) (λ z. same_core z.id.core c && same_lane z.lane l) s.peis (each_in _ s.peis (λ z i. ap₂ (λ d n. same_core d.core c && same_lane n l) (with_phase_parts id ph z).0 (with_phase_parts id ph z).1)) ∙ g),
-          parts.2,
-          parts.3,
-        )
+    looks c l p g = let parts = with_phase_parts id ph p in (f p, moves c l p g, parts.2, parts.3)
+
+    -- what moves on has its entry, and waits for none
+    waits : (c : CoreId) (l : Lane) (e : ℕ) (p : PeiLook) → claim_at claims c.0 l.0 ≡ Announced e → look_in s c l ≡ Some p → p.phase ≡ phase.Issued → look_in t c l ≡ Some p
+    waits c l e p claim g issued = moves c l p g ∙ ap Some (by (same_pei p.id id) refl)
+      where
+        by : (b : Bool) → same_pei p.id id ≡ b → f p ≡ p
+        by true q =
+            let seen = find_Some (λ z. same_core z.id.core c && same_lane z.lane l) s.peis p g
+            in let both = and_parts (same_core p.id.core c) (same_lane p.lane l) seen.1
+            in absurd (cc (sym claim ∙ sym (ap₂ (claim_at claims) (eqb-true p.id.core.0 c.0 both.0) (eqb-true p.lane.0 l.0 both.1)) ∙ has p seen.0 (ap (λ b. is_past_issue (if b then moved ph p else p)) q ∙ ap not later)))
+        by false q = ap (λ b. if b then moved ph p else p) q
 
     apart : (p q : PeiLook) → In p t.peis → In q t.peis → same_core p.id.core q.id.core ≡ true → same_lane p.lane q.lane ≡ true → p ≡ q
     apart p q i j c l =
@@ -398,7 +488,7 @@ follows_moved m s t entries claims id ph same has h = record { active = active; 
         in x.2 ∙ ap f (h.apart x.0 y.0 x.1 y.1 core lane) ∙ sym y.2
 
 pub follows_issued : (m : MachineSpec) (s t : State) (entries : List Claims) (claims : List (List LaneClaim)) (n : PeiLook) → t.peis ≡ s.peis ++ n ∷ [] → is_past_issue n ≡ false → look_in s n.id.core n.lane ≡ None → Holding m s entries claims → Follows m s t claims
-follows_issued m s t entries claims n same fresh free h = record { active = active; looks = looks; apart = apart }
+follows_issued m s t entries claims n same fresh free h = record { active = active; looks = looks; waits = λ c l e p claim g issued. (looks c l p g).1; apart = apart }
   where
     active : (l : PeiLook) → In l t.peis → is_past_issue l ≡ true → claim_at claims l.id.core.0 l.lane.0 ≡ Held (entry_of m l.block) (mode_of l.op)
     active l i past = by (in_push s.peis n l (subst (In l) same i))
@@ -446,6 +536,8 @@ holding_left m s t entries claims a seq l actor same i named lane past unique h 
       lone = λ c n d o e k h1 h2. h.lone c n d o e k (sym (holds e mode.Writer c n) ∙ h1) (sym (holds e k d o) ∙ h2);
       active = active;
       held = held;
+      waiting = λ e below. h.waiting e below ∙ sym (same_count _ _ _ _ (count_change (waits_on e) claims a.core.0 a.lane.0 f w.core w.lane) (ap one (sym (spent_waits e (claim_at claims a.core.0 a.lane.0)))));
+      announced = announced;
       apart = λ p q u v. h.apart p q (stays p u).0 (stays q v).0;
     }
   where
@@ -473,7 +565,13 @@ holding_left m s t entries claims a seq l actor same i named lane past unique h 
     spent_holds e k (Held at how) = refl
     spent_holds e k (Spent at how) = refl
     spent_holds e k Free = refl
-    spent_holds e k Announced = refl
+    spent_holds e k (Announced at) = refl
+
+    spent_waits : (e : ℕ) (x : LaneClaim) → waits_on e (f x) ≡ waits_on e x
+    spent_waits e (Held at how) = refl
+    spent_waits e (Spent at how) = refl
+    spent_waits e Free = refl
+    spent_waits e (Announced at) = refl
 
     holds : (e : ℕ) (k : Mode) (d n : ℕ) → holds_entry e k (claim_at (changed claims a.core.0 a.lane.0 f) d n) ≡ holds_entry e k (claim_at claims d n)
     holds e k d n = by (place_cases a.core.0 a.lane.0 d n)
@@ -496,26 +594,35 @@ holding_left m s t entries claims a seq l actor same i named lane past unique h 
         by (inl q) = absurd (cc (sym (same_pei_refl (pei_id a seq)) ∙ ap (λ d. same_pei d (pei_id a seq)) (sym (ap (λ z. z.id) (own p (stays p u).0 q) ∙ named)) ∙ (stays p u).1))
         by (inr q) = other p.id.core.0 p.lane.0 q ∙ h.active p (stays p u).0 past'
 
+    -- another lane's PEI stays
+    elsewhere : (b : Actor) (p : PeiLook) → ((a.core.0 ≡ b.core.0) × (a.lane.0 ≡ b.lane.0) → ⊥) → look_in s b.core b.lane ≡ Some p → look_in t b.core b.lane ≡ Some p
+    elsewhere b p apart g =
+        let seen = find_Some (λ z. same_core z.id.core b.core && same_lane z.lane b.lane) s.peis p g
+        in let both = and_parts (same_core p.id.core b.core) (same_lane p.lane b.lane) seen.1
+        in ap (find (λ z. same_core z.id.core b.core && same_lane z.lane b.lane)) same
+        ∙ find_filter (λ z. same_core z.id.core b.core && same_lane z.lane b.lane) (λ z. not (same_pei z.id (pei_id a seq))) s.peis p g (ap not (by seen.0 both.0 both.1 (same_pei p.id (pei_id a seq)) refl))
+      where
+        by : In p s.peis → same_core p.id.core b.core ≡ true → same_lane p.lane b.lane ≡ true → (v : Bool) → same_pei p.id (pei_id a seq) ≡ v → same_pei p.id (pei_id a seq) ≡ false
+        by u c n true e = absurd (apart (ap (λ d. d.core.0) (sym (same_pei_is p.id (pei_id a seq) e)) ∙ eqb-true p.id.core.0 b.core.0 c, at_lane))
+          where
+            at_lane : a.lane.0 ≡ b.lane.0
+            at_lane = ap (λ d. d.0) (sym lane ∙ ap (λ d. d.lane) (sym (unique p u (same_pei_is p.id (pei_id a seq) e ∙ sym named)))) ∙ eqb-true p.lane.0 b.lane.0 n
+        by u c n false e = e
+
+    -- the claim at the actor's place is spent
+    spent_here : (b : Actor) (x : LaneClaim) → (a.core.0 ≡ b.core.0) × (a.lane.0 ≡ b.lane.0) → claim_at (changed claims a.core.0 a.lane.0 f) b.core.0 b.lane.0 ≡ x → x ≡ Spent (entry_of m l.block) (mode_of l.op)
+    spent_here b x p g = sym g ∙ here b.core.0 b.lane.0 p ∙ ap f (ap₂ (claim_at claims) (sym p.0) (sym p.1) ∙ was)
+
     held : (b : Actor) (e : ℕ) (k : Mode) → claim_at (changed claims a.core.0 a.lane.0 f) b.core.0 b.lane.0 ≡ Held e k → (p : PeiLook) × (look_in t b.core b.lane ≡ Some p) × (entry_of m p.block ≡ e) × (mode_of p.op ≡ k)
     held b e k g = by (place_cases a.core.0 a.lane.0 b.core.0 b.lane.0)
       where
-        spent_not : (x : LaneClaim) → f x ≡ Held e k → ⊥
-        spent_not (Held at how) q = absurd (cc q)
-        spent_not (Spent at how) q = absurd (cc q)
-        spent_not Free q = absurd (cc q)
-        spent_not Announced q = absurd (cc q)
-
         by : ((a.core.0 ≡ b.core.0) × (a.lane.0 ≡ b.lane.0)) ⊎ ((a.core.0 ≡ b.core.0) × (a.lane.0 ≡ b.lane.0) → ⊥) → (p : PeiLook) × (look_in t b.core b.lane ≡ Some p) × (entry_of m p.block ≡ e) × (mode_of p.op ≡ k)
-        by (inl p) = absurd (spent_not (claim_at claims b.core.0 b.lane.0) (sym (here b.core.0 b.lane.0 p) ∙ g))
-        by (inr p) =
-            let r = h.held b e k (sym (other b.core.0 b.lane.0 p) ∙ g)
-            in let seen = find_Some (λ z. same_core z.id.core b.core && same_lane z.lane b.lane) s.peis r.0 r.1
-            in let both = and_parts (same_core r.0.id.core b.core) (same_lane r.0.lane b.lane) seen.1
-            in (r.0, ap (find (λ z. same_core z.id.core b.core && same_lane z.lane b.lane)) same ∙ find_filter (λ z. same_core z.id.core b.core && same_lane z.lane b.lane) (λ z. not (same_pei z.id (pei_id a seq))) s.peis r.0 r.1 (ap not (elsewhere r.0 seen.0 both.0 both.1 (same_pei r.0.id (pei_id a seq)) refl)), r.2, r.3)
-          where
-            elsewhere : (z : PeiLook) → In z s.peis → same_core z.id.core b.core ≡ true → same_lane z.lane b.lane ≡ true → (v : Bool) → same_pei z.id (pei_id a seq) ≡ v → same_pei z.id (pei_id a seq) ≡ false
-            elsewhere z u c n true e' = absurd (p (ap (λ d. d.core.0) (sym (same_pei_is z.id (pei_id a seq) e')) ∙ eqb-true z.id.core.0 b.core.0 c, at_lane))
-              where
-                at_lane : a.lane.0 ≡ b.lane.0
-                at_lane = ap (λ d. d.0) (sym lane ∙ ap (λ d. d.lane) (sym (unique z u (same_pei_is z.id (pei_id a seq) e' ∙ sym named)))) ∙ eqb-true z.lane.0 b.lane.0 n
-            elsewhere z u c n false e' = e'
+        by (inl p) = absurd (cc (spent_here b (Held e k) p g))
+        by (inr p) = let r = h.held b e k (sym (other b.core.0 b.lane.0 p) ∙ g) in (r.0, elsewhere b r.0 p r.1, r.2, r.3)
+
+    announced : (b : Actor) (e : ℕ) → claim_at (changed claims a.core.0 a.lane.0 f) b.core.0 b.lane.0 ≡ Announced e → (p : PeiLook) × (look_in t b.core b.lane ≡ Some p) × (p.phase ≡ phase.Issued) × (entry_of m p.block ≡ e) × (mode_of p.op ≡ mode.Writer)
+    announced b e g = by (place_cases a.core.0 a.lane.0 b.core.0 b.lane.0)
+      where
+        by : ((a.core.0 ≡ b.core.0) × (a.lane.0 ≡ b.lane.0)) ⊎ ((a.core.0 ≡ b.core.0) × (a.lane.0 ≡ b.lane.0) → ⊥) → (p : PeiLook) × (look_in t b.core b.lane ≡ Some p) × (p.phase ≡ phase.Issued) × (entry_of m p.block ≡ e) × (mode_of p.op ≡ mode.Writer)
+        by (inl p) = absurd (cc (spent_here b (Announced e) p g))
+        by (inr p) = let r = h.announced b e (sym (other b.core.0 b.lane.0 p) ∙ g) in (r.0, elsewhere b r.0 p r.1, r.2, r.3, r.4)

@@ -35,7 +35,7 @@ use Rattle.history_laws.specs.Fits.{Fits, AsksForFence, EntersFree}
 use Rattle.history_laws.specs.Sound.{GoesByRow, MeetsState, Sound, SoundRun, IsSoundEvent, IssuesUnfenced}
 use Rattle.history_laws.proofs.Steps.{guard_numbers}
 use Rattle.history_laws.proofs.Programs.{asks_next}
-use Rattle.history_laws.proofs.Plain.{sound_at_start, sound_next, sound_meets, fits_sound}
+use Rattle.history_laws.proofs.Fitting.{sound_at_start, sound_next, sound_meets, fits_sound}
 use Rattle.history_laws.proofs.Rows.{fits_next}
 use Rattle.std.proofs.lemmas.Option.{same_Some}
 use Rattle.pei_types.proofs.Identities.{same_pei_refl, same_pei_is, makes_is}

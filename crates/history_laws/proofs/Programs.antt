@@ -14,10 +14,11 @@ use Rattle.pei_types.specs.declared.calls.TrapCause.{TrapCause}
 use Rattle.pei_types.specs.declared.events.Event.{Event}
 use Rattle.pei_types.specs.declared.events.EventKind.{EventKind}
 use Rattle.pei_types.specs.declared.events.EventKind.TheVariants as event
+use Rattle.pei_types.specs.declared.machines.CoreConfig.{CoreConfig}
 use Rattle.pei_types.specs.declared.machines.MachineSpec.{MachineSpec}
 use Rattle.pei_types.specs.Blocks.{same_core}
 use Rattle.pei_types.specs.Calls.{AnswersCall, AnswersNext}
-use Rattle.pei_types.specs.Core.{CoreState, Stops, CoreNext, Calls, Busy, Ended, Wait, core_at_start, core_step, step_unless_over, step_at, step_unless_busy, step_of_effect, asks_unless, branch, at_stop, next_of, next_of_step, effect_of, busy_register, wait_at, core_after, after_answer, events_of, next_of_core}
+use Rattle.pei_types.specs.Core.{CoreState, Stops, CoreNext, Calls, Busy, Ended, Wait, core_at_start, core_step, step_unless_over, step_at, step_unless_busy, step_of_effect, asks_unless, branch, at_stop, next_of, next_of_step, effect_of, busy_register, wait_at, core_config, core_after, after_answer, events_of, next_of_core}
 use Rattle.pei_types.specs.History.{begins_fence}
 use Rattle.pei_types.specs.Program.{Listing, Contents, instr_at}
 use Rattle.pei_types.proofs.CoreStops.{steps_stop, stays}
@@ -53,40 +54,40 @@ no_branch true pc to r s h = cc h
 no_branch false pc to r s h = cc h
 
 -- only a fence asks for one
-asks_fence : (blocks : ℕ) (s : CoreState) (i : Instr) → step_of_effect s (effect_of blocks s.pc s.registers i) ≡ Stops (Calls call.Fence) → i ≡ instr.Pfence
-asks_fence blocks s instr.Pfence h = refl
-asks_fence blocks s (instr.Ld rd ra n) h = absurd (no_ask _ s.pc _ s (λ e. cc e) h)
-asks_fence blocks s (instr.St rv ra n) h = absurd (no_ask _ s.pc _ s (λ e. cc e) h)
-asks_fence blocks s (instr.Pinc ra n) h = absurd (no_ask _ s.pc _ s (λ e. cc e) h)
-asks_fence blocks s (instr.Pmin ra n rv) h = absurd (no_ask _ s.pc _ s (λ e. cc e) h)
-asks_fence blocks s (instr.Pprobe rd ra n rk) h = absurd (no_ask _ s.pc _ s (λ e. cc e) h)
-asks_fence blocks s (instr.Phist rd ra n rs) h = absurd (no_ask _ s.pc _ s (λ e. cc e) h)
-asks_fence blocks s (instr.Pdot rd ra n rw') h = absurd (no_ask _ s.pc _ s (λ e. cc e) h)
-asks_fence blocks s (instr.Beq ra rb to) h = absurd (no_branch _ s.pc to s.registers s h)
-asks_fence blocks s (instr.Bne ra rb to) h = absurd (no_branch _ s.pc to s.registers s h)
-asks_fence blocks s (instr.Bltu ra rb to) h = absurd (no_branch _ s.pc to s.registers s h)
-asks_fence blocks s (instr.Bgeu ra rb to) h = absurd (no_branch _ s.pc to s.registers s h)
-asks_fence blocks s _ h = absurd (cc h)
+asks_fence : (config : CoreConfig) (s : CoreState) (i : Instr) → step_of_effect s (effect_of config s.pc s.registers i) ≡ Stops (Calls call.Fence) → i ≡ instr.Pfence
+asks_fence config s instr.Pfence h = refl
+asks_fence config s (instr.Ld rd ra n) h = absurd (no_ask _ s.pc _ s (λ e. cc e) h)
+asks_fence config s (instr.St rv ra n) h = absurd (no_ask _ s.pc _ s (λ e. cc e) h)
+asks_fence config s (instr.Pinc ra n) h = absurd (no_ask _ s.pc _ s (λ e. cc e) h)
+asks_fence config s (instr.Pmin ra n rv) h = absurd (no_ask _ s.pc _ s (λ e. cc e) h)
+asks_fence config s (instr.Pprobe rd ra n rk) h = absurd (no_ask _ s.pc _ s (λ e. cc e) h)
+asks_fence config s (instr.Phist rd ra n rs) h = absurd (no_ask _ s.pc _ s (λ e. cc e) h)
+asks_fence config s (instr.Pdot rd ra n rw') h = absurd (no_ask _ s.pc _ s (λ e. cc e) h)
+asks_fence config s (instr.Beq ra rb to) h = absurd (no_branch _ s.pc to s.registers s h)
+asks_fence config s (instr.Bne ra rb to) h = absurd (no_branch _ s.pc to s.registers s h)
+asks_fence config s (instr.Bltu ra rb to) h = absurd (no_branch _ s.pc to s.registers s h)
+asks_fence config s (instr.Bgeu ra rb to) h = absurd (no_branch _ s.pc to s.registers s h)
+asks_fence config s _ h = absurd (cc h)
 
-at_fence_instr : (p : Listing) (config : CoreConfig) (s : CoreState) (o : Option Instr) → step_at blocks s o ≡ Stops (Calls call.Fence) → o ≡ Some instr.Pfence
+at_fence_instr : (p : Listing) (config : CoreConfig) (s : CoreState) (o : Option Instr) → step_at config s o ≡ Stops (Calls call.Fence) → o ≡ Some instr.Pfence
 at_fence_instr p config s None h = absurd (cc h)
 at_fence_instr p config s (Some i) h = by (busy_register s.waits i) h
   where
-    by : (w : Option ℕ) → step_unless_busy blocks s i w ≡ Stops (Calls call.Fence) → Some i ≡ Some instr.Pfence
-    by None k = ap Some (asks_fence blocks s i k)
+    by : (w : Option ℕ) → step_unless_busy config s i w ≡ Stops (Calls call.Fence) → Some i ≡ Some instr.Pfence
+    by None k = ap Some (asks_fence config s i k)
     by (Some w) k = absurd (cc k)
 
-pub at_fence : (p : Listing) (config : CoreConfig) (s : CoreState) → core_step p config s ≡ Stops (Calls call.Fence) → AtFence p fuel s
+pub at_fence : (p : Listing) (config : CoreConfig) (s : CoreState) → core_step p config s ≡ Stops (Calls call.Fence) → AtFence p config.fuel s
 at_fence p config s h = by s.ended s.raced refl refl h
   where
-    running : (b : Bool) → s.ended ≡ None → s.raced ≡ None → nat_lt s.retired fuel ≡ b → (if b then step_at blocks s (instr_at p s.pc) else Stops (Calls (call.End ends.Fuel))) ≡ Stops (Calls call.Fence) → AtFence p fuel s
+    running : (b : Bool) → s.ended ≡ None → s.raced ≡ None → nat_lt s.retired config.fuel ≡ b → (if b then step_at config s (instr_at p s.pc) else Stops (Calls (call.End ends.Fuel))) ≡ Stops (Calls call.Fence) → AtFence p config.fuel s
     running true e r q k = record { open_end = e; no_race = r; below = q; here = at_fence_instr p config s (instr_at p s.pc) k }
     running false e r q k = absurd (cc k)
 
-    by : (ended raced : Option EndKind) → s.ended ≡ ended → s.raced ≡ raced → step_unless_over p config s ended raced ≡ Stops (Calls call.Fence) → AtFence p fuel s
+    by : (ended raced : Option EndKind) → s.ended ≡ ended → s.raced ≡ raced → step_unless_over p config s ended raced ≡ Stops (Calls call.Fence) → AtFence p config.fuel s
     by (Some kind) raced e r k = absurd (cc k)
     by None (Some race) e r k = absurd (cc k)
-    by None None e r k = running (nat_lt s.retired fuel) e r refl k
+    by None None e r k = running (nat_lt s.retired config.fuel) e r refl k
 
 no_register : (f : ℕ → Bool) (rs : List ℕ) → find (λ r. f r && false) rs ≡ None
 no_register f [] = refl
@@ -97,18 +98,18 @@ fence_free : (waits : List (Option Wait)) → busy_register waits instr.Pfence �
 unfolding busy_register
 fence_free waits = rw (no_register (λ r. is_some (wait_at waits r)) (range_with_len 0 16)) refl
 
-pub fence_stops : (p : Listing) (config : CoreConfig) (s : CoreState) → AtFence p fuel s → core_step p config s ≡ Stops (Calls call.Fence)
+pub fence_stops : (p : Listing) (config : CoreConfig) (s : CoreState) → AtFence p config.fuel s → core_step p config s ≡ Stops (Calls call.Fence)
 fence_stops p config s a = rw (a.open_end, a.no_race, a.below, a.here, fence_free s.waits) refl
 
 -- what a core does next that stands where it stops
 pub next_of_stopped : (p : Listing) (config : CoreConfig) (s : CoreState) (x : CoreNext) → core_step p config s ≡ Stops x → next_of p config s ≡ x
 next_of_stopped p config s x h =
-    ap (λ t. next_of_step (core_step p config t)) (stays p config (suc (fuel - s.retired)) s x h) ∙ ap next_of_step h
+    ap (λ t. next_of_step (core_step p config t)) (stays p config (suc (config.fuel - s.retired)) s x h) ∙ ap next_of_step h
 
 -- where a core stops, it stops at what it does next
 pub stopped_at : (p : Listing) (config : CoreConfig) (s : CoreState) → core_step p config (at_stop p config s) ≡ Stops (next_of p config s)
 stopped_at p config s =
-    let r = steps_stop p config (suc (fuel - s.retired)) s (enough (fuel - s.retired))
+    let r = steps_stop p config (suc (config.fuel - s.retired)) s (enough (config.fuel - s.retired))
     in r.1 ∙ ap Stops (sym (ap next_of_step r.1))
   where
     enough : (n : ℕ) → n < suc n
@@ -123,7 +124,7 @@ pub next_after_act : (p : Listing) (config : CoreConfig) (s t : CoreState) → n
 next_after_act p config s t h ended raced retired pc =
     let a = at_fence p config (at_stop p config s) (stopped_at p config s ∙ ap Stops h)
     in next_of_stopped p config t (Calls call.Fence)
-    (fence_stops p config t (record { open_end = ended ∙ a.open_end; no_race = raced ∙ a.no_race; below = ap (λ n. nat_lt n fuel) retired ∙ a.below; here = ap (instr_at p) pc ∙ a.here }))
+    (fence_stops p config t (record { open_end = ended ∙ a.open_end; no_race = raced ∙ a.no_race; below = ap (λ n. nat_lt n config.fuel) retired ∙ a.below; here = ap (instr_at p) pc ∙ a.here }))
 
 -- ---- one more event
 

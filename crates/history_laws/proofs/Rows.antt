@@ -27,7 +27,7 @@ use Rattle.pei_types.specs.Program.{Contents}
 use Rattle.pei_types.specs.Recency.{list_at, victim}
 use Rattle.pei_types.specs.Turns.{lane_turn, program_turn, is_entering, IsNextOf}
 use Rattle.history_laws.specs.Fits.{Fits, FitsSide, EntersFree}
-use Rattle.history_laws.proofs.Plain.{fits_issue, fits_fence, fits_end, fits_enter, phase_follows}
+use Rattle.history_laws.proofs.Fitting.{fits_issue, fits_fence, fits_end, fits_enter, phase_follows}
 use Rattle.pei_types.proofs.Identities.{makes_is}
 
 -- ---- messages

@@ -42,7 +42,7 @@ use Rattle.pei_types.proofs.Pushes.{state_after-push}
 use Rattle.history_laws.specs.Members.{In}
 use Rattle.history_laws.specs.Tracking.{is_past_issue, Agrees}
 use Rattle.history_laws.specs.Fits.{Fits, EntersFree}
-use Rattle.history_laws.specs.Holding.{claim_at, holds_entry, same_mode, count_in, count_all, counted, Holding}
+use Rattle.history_laws.specs.Holding.{claim_at, holds_entry, same_mode, count_in, count_all, counted, waits_on, Holding}
 use Rattle.history_laws.specs.Runs.{WholeRun}
 use Rattle.history_laws.specs.Sound.{ChoosesActors, GoesByRow}
 use Rattle.history_laws.proofs.Lists.{find_Some, change_at_same, or_parts_cases}
@@ -50,10 +50,11 @@ use Rattle.history_laws.proofs.Agree.{Moves, moved, new_look}
 use Rattle.history_laws.proofs.Steps.{moves_place_host, moves_place_memory, moves_read, moves_seal, moves_act, keeps_placing, keeps_reading, keeps_acting, keeps_invalidating, keeps_downgrading}
 use Rattle.history_laws.proofs.Derived.{look_same}
 use Rattle.history_laws.proofs.Clauses.{IsOf, of_lane}
-use Rattle.history_laws.proofs.Plain.{run_next, run_starts, chosen}
+use Rattle.history_laws.proofs.Fitting.{run_next, run_starts}
+use Rattle.history_laws.proofs.Policies.{chosen}
 use Rattle.history_laws.proofs.Rows.{fits_call_row, fits_pei_row}
 use Rattle.history_laws.proofs.Counting.{changed}
-use Rattle.history_laws.proofs.Holding.{Follows, free_like, holding_follows, follows_same, follows_moved, follows_issued, holding_left, holding_announced, holding_granted, holding_released}
+use Rattle.history_laws.proofs.Holding.{Follows, may_try, holding_follows, follows_same, follows_moved, follows_issued, holding_left, holding_announced, holding_granted, holding_released}
 use Rattle.pei_types.proofs.Identities.{same_lane_is, same_pei_is, makes_is}
 use Rattle.std.proofs.Math.Bool.{or-false}
 use Rattle.std.proofs.lemmas.Bool.{and_parts}
@@ -138,26 +139,26 @@ holding_next x m image journal s entries claims a (event.Issue seq lane o b oper
     (follows_issued m s (next_state m s a (event.Issue seq lane o b operands)) entries claims (new_look a seq lane o b operands) refl refl (free_is_none m s a.core lane f.1.1.2) h) h
 holding_next x m image journal s entries claims a (event.Enter seq) g f e h =
     kept m s (next_state m s a (event.Enter seq)) entries claims a (after_leave (event.Enter seq)) (λ z. refl)
-    (follows_moved m s (next_state m s a (event.Enter seq)) entries claims (pei_id a seq) phase.Entered refl (has_entered_claim m s journal entries claims a seq f.1.1.0 g f.1.1.1 f.1.1.2 (e f.1.1.0 f.1.1.1) h) h) h
+    (follows_moved m s (next_state m s a (event.Enter seq)) entries claims (pei_id a seq) phase.Entered refl refl (has_entered_claim m s journal entries claims a seq f.1.1.0 g f.1.1.1 f.1.1.2 (e f.1.1.0 f.1.1.1) h) h) h
 holding_next x m image journal s entries claims a (event.Leave seq) g f e h =
     let l = f.1.1.0
     in let o = of_lane m s journal a seq l g f.1.1.1 f.1.1.2
     in holding_left m s (next_state m s a (event.Leave seq)) entries claims a seq l f.0 refl o.here o.named (same_lane_is l.lane a.lane o.lane) (acted_past l.phase seq f.1.1.3) (λ z i same. look_same m s journal g z l i o.here same) h
 holding_next x m image journal s entries claims a (event.Place seq place.Host) g f e h =
     kept m s (next_state m s a (event.Place seq place.Host)) entries claims a (after_leave (event.Place seq place.Host)) (λ z. refl)
-    (follows_moved m s (next_state m s a (event.Place seq place.Host)) entries claims (pei_id a seq) phase.HostPlaced (ap (map (with_phase (pei_id a seq) phase.HostPlaced)) (keeps_placing m s (look_of s (pei_id a seq))).peis) (has_moved m s journal entries claims a (event.Place seq place.Host) seq phase.HostPlaced f.1.1.0 (moves_place_host seq) refl refl g f.1.1.1 f.1.1.2 f.1.1.3 h) h) h
+    (follows_moved m s (next_state m s a (event.Place seq place.Host)) entries claims (pei_id a seq) phase.HostPlaced refl (ap (map (with_phase (pei_id a seq) phase.HostPlaced)) (keeps_placing m s (look_of s (pei_id a seq))).peis) (has_moved m s journal entries claims a (event.Place seq place.Host) seq phase.HostPlaced f.1.1.0 (moves_place_host seq) refl refl g f.1.1.1 f.1.1.2 f.1.1.3 h) h) h
 holding_next x m image journal s entries claims a (event.Place seq place.Memory) g f e h =
     kept m s (next_state m s a (event.Place seq place.Memory)) entries claims a (after_leave (event.Place seq place.Memory)) (λ z. refl)
-    (follows_moved m s (next_state m s a (event.Place seq place.Memory)) entries claims (pei_id a seq) phase.MemoryPlaced (ap (map (with_phase (pei_id a seq) phase.MemoryPlaced)) (keeps_placing m s (look_of s (pei_id a seq))).peis) (has_moved m s journal entries claims a (event.Place seq place.Memory) seq phase.MemoryPlaced f.1.1.0 (moves_place_memory seq) refl refl g f.1.1.1 f.1.1.2 f.1.1.3 h) h) h
+    (follows_moved m s (next_state m s a (event.Place seq place.Memory)) entries claims (pei_id a seq) phase.MemoryPlaced refl (ap (map (with_phase (pei_id a seq) phase.MemoryPlaced)) (keeps_placing m s (look_of s (pei_id a seq))).peis) (has_moved m s journal entries claims a (event.Place seq place.Memory) seq phase.MemoryPlaced f.1.1.0 (moves_place_memory seq) refl refl g f.1.1.1 f.1.1.2 f.1.1.3 h) h) h
 holding_next x m image journal s entries claims a (event.Read seq) g f e h =
     kept m s (next_state m s a (event.Read seq)) entries claims a (after_leave (event.Read seq)) (λ z. refl)
-    (follows_moved m s (next_state m s a (event.Read seq)) entries claims (pei_id a seq) phase.Read (ap (map (with_phase (pei_id a seq) phase.Read)) (keeps_reading m s (look_of s (pei_id a seq))).peis) (has_moved m s journal entries claims a (event.Read seq) seq phase.Read f.1.1.0 (moves_read seq) refl refl g f.1.1.1 f.1.1.2 f.1.1.3 h) h) h
+    (follows_moved m s (next_state m s a (event.Read seq)) entries claims (pei_id a seq) phase.Read refl (ap (map (with_phase (pei_id a seq) phase.Read)) (keeps_reading m s (look_of s (pei_id a seq))).peis) (has_moved m s journal entries claims a (event.Read seq) seq phase.Read f.1.1.0 (moves_read seq) refl refl g f.1.1.1 f.1.1.2 f.1.1.3 h) h) h
 holding_next x m image journal s entries claims a (event.Seal seq vault) g f e h =
     kept m s (next_state m s a (event.Seal seq vault)) entries claims a (after_leave (event.Seal seq vault)) (λ z. refl)
-    (follows_moved m s (next_state m s a (event.Seal seq vault)) entries claims (pei_id a seq) phase.Sealed refl (has_moved m s journal entries claims a (event.Seal seq vault) seq phase.Sealed f.1.1.0 (moves_seal seq vault) refl refl g f.1.1.1 f.1.1.2 f.1.1.3 h) h) h
+    (follows_moved m s (next_state m s a (event.Seal seq vault)) entries claims (pei_id a seq) phase.Sealed refl refl (has_moved m s journal entries claims a (event.Seal seq vault) seq phase.Sealed f.1.1.0 (moves_seal seq vault) refl refl g f.1.1.1 f.1.1.2 f.1.1.3 h) h) h
 holding_next x m image journal s entries claims a (event.Act seq reply) g f e h =
     kept m s (next_state m s a (event.Act seq reply)) entries claims a (after_leave (event.Act seq reply)) (λ z. refl)
-    (follows_moved m s (next_state m s a (event.Act seq reply)) entries claims (pei_id a seq) phase.Acted (ap (map (with_phase (pei_id a seq) phase.Acted)) (keeps_acting m s (look_of s (pei_id a seq))).peis) (has_moved m s journal entries claims a (event.Act seq reply) seq phase.Acted f.1.1.0 (moves_act seq reply) refl refl g f.1.1.1 f.1.1.2 f.1.1.3 h) h) h
+    (follows_moved m s (next_state m s a (event.Act seq reply)) entries claims (pei_id a seq) phase.Acted refl (ap (map (with_phase (pei_id a seq) phase.Acted)) (keeps_acting m s (look_of s (pei_id a seq))).peis) (has_moved m s journal entries claims a (event.Act seq reply) seq phase.Acted f.1.1.0 (moves_act seq reply) refl refl g f.1.1.1 f.1.1.2 f.1.1.3 h) h) h
 
 -- ---- a run so far
 
@@ -331,7 +332,7 @@ entry_free m s entries claims p i fresh claim h = none_of (λ q. is_past_issue q
 
 -- ---- the steps of a lane toward its entry
 
-tried : (p : Listing) (m : MachineSpec) (image : Contents) (r : Run) (a : Actor) (l : PeiLook) (k : Mode) → IsTrue (is_actor_of m a) → look_in (state_after m r.journal) a.core a.lane ≡ Some l → mode_of l.op ≡ k → free_like (claim_of r a) ≡ true → WholeRun p m image r → WholeRun p m image (after_try r a (entry_of m l.block) k)
+tried : (p : Listing) (m : MachineSpec) (image : Contents) (r : Run) (a : Actor) (l : PeiLook) (k : Mode) → IsTrue (is_actor_of m a) → look_in (state_after m r.journal) a.core a.lane ≡ Some l → mode_of l.op ≡ k → may_try k (claim_of r a) ≡ true → WholeRun p m image r → WholeRun p m image (after_try r a (entry_of m l.block) k)
 tried p m image r a l k actor here same free d = by (is_granted (claims_at r (entry_of m l.block)) k) refl
   where
     granted_run : is_granted (claims_at r (entry_of m l.block)) k ≡ true → WholeRun p m image (with_step r a (entry_of m l.block) (λ c. with_claim c k) (Held (entry_of m l.block) k))
@@ -342,7 +343,7 @@ tried p m image r a l k actor here same free d = by (is_granted (claims_at r (en
           within = d.within;
           holding =
               subst (λ z. Holding m (state_after m r.journal) (change_at r.entries (entry_of m l.block) (λ c. with_claim c z)) (changed r.claims a.core.0 a.lane.0 (λ _. Held (entry_of m l.block) z))) same
-              (holding_granted m (state_after m r.journal) r.entries r.claims a l actor here free (subst (λ z. is_granted (claims_at r (entry_of m l.block)) z ≡ true) (sym same) e) d.holding);
+              (holding_granted m (state_after m r.journal) r.entries r.claims a l actor here (ap (λ z. may_try z (claim_of r a)) same ∙ free) (subst (λ z. is_granted (claims_at r (entry_of m l.block)) z ≡ true) (sym same) e) d.holding);
         }
 
     by : (b : Bool) → is_granted (claims_at r (entry_of m l.block)) k ≡ b → WholeRun p m image (if b then with_step r a (entry_of m l.block) (λ c. with_claim c k) (Held (entry_of m l.block) k) else after_stall r)
@@ -398,10 +399,10 @@ held_row p m image r a l at k ready lane here issued claim d =
 
 toward : (p : Listing) (m : MachineSpec) (image : Contents) (r : Run) (a : Actor) (l : PeiLook) → IsReady m r a → 0 < a.lane.0 → look_in (state_after m r.journal) a.core a.lane ≡ Some l → l.phase ≡ phase.Issued → (k : Mode) (x : LaneClaim) → mode_of l.op ≡ k → claim_of r a ≡ x → WholeRun p m image r → WholeRun p m image (toward_enter (whole_table m image) r a l (entry_of m l.block) k x)
 toward p m image r a l ready lane here issued mode.Writer Free same claim d =
-    record { run = d.run; rows = d.rows; within = d.within; holding = holding_announced m (state_after m r.journal) r.entries r.claims a (entry_of m l.block) ready.0 claim d.holding }
-toward p m image r a l ready lane here issued mode.Reader Free same claim d = tried p m image r a l mode.Reader ready.0 here same (ap free_like claim) d
-toward p m image r a l ready lane here issued mode.Writer Announced same claim d = tried p m image r a l mode.Writer ready.0 here same (ap free_like claim) d
-toward p m image r a l ready lane here issued mode.Reader Announced same claim d = tried p m image r a l mode.Reader ready.0 here same (ap free_like claim) d
+    record { run = d.run; rows = d.rows; within = d.within; holding = holding_announced m (state_after m r.journal) r.entries r.claims a l ready.0 here issued same claim d.holding }
+toward p m image r a l ready lane here issued mode.Reader Free same claim d = tried p m image r a l mode.Reader ready.0 here same (ap (may_try mode.Reader) claim) d
+toward p m image r a l ready lane here issued mode.Writer (Announced at) same claim d = tried p m image r a l mode.Writer ready.0 here same (ap (may_try mode.Writer) claim) d
+toward p m image r a l ready lane here issued mode.Reader (Announced at) same claim d = tried p m image r a l mode.Reader ready.0 here same (ap (may_try mode.Reader) claim) d
 toward p m image r a l ready lane here issued mode.Writer (Held at how) same claim d = held_row p m image r a l at how ready lane here issued claim d
 toward p m image r a l ready lane here issued mode.Reader (Held at how) same claim d = held_row p m image r a l at how ready lane here issued claim d
 toward p m image r a l ready lane here issued mode.Writer (Spent at how) same claim d = stalled p m image r d
@@ -424,10 +425,10 @@ lane_goes : (p : Listing) (m : MachineSpec) (image : Contents) (r : Run) (a : Ac
 lane_goes p m image r a ready lane o here (Spent at how) claim d =
     record { run = d.run; rows = d.rows; within = d.within; holding = holding_released m (state_after m r.journal) r.entries r.claims a at how ready.0 claim d.holding }
 lane_goes p m image r a ready lane None here Free claim d = stalled p m image r d
-lane_goes p m image r a ready lane None here Announced claim d = stalled p m image r d
+lane_goes p m image r a ready lane None here (Announced at) claim d = stalled p m image r d
 lane_goes p m image r a ready lane None here (Held at how) claim d = stalled p m image r d
 lane_goes p m image r a ready lane (Some l) here Free claim d = claims_turn p m image r a l ready lane here (pei_row m (state_after m r.journal) (flat_block image r.journal) false l l.phase) refl d
-lane_goes p m image r a ready lane (Some l) here Announced claim d = claims_turn p m image r a l ready lane here (pei_row m (state_after m r.journal) (flat_block image r.journal) false l l.phase) refl d
+lane_goes p m image r a ready lane (Some l) here (Announced at) claim d = claims_turn p m image r a l ready lane here (pei_row m (state_after m r.journal) (flat_block image r.journal) false l l.phase) refl d
 lane_goes p m image r a ready lane (Some l) here (Held at how) claim d = claims_turn p m image r a l ready lane here (pei_row m (state_after m r.journal) (flat_block image r.journal) false l l.phase) refl d
 
 -- a turn of an actor of the whole machine
@@ -469,6 +470,8 @@ holding_at_start m =
       lone = λ c l d n e k h. absurd (cc (sym h ∙ ap (holds_entry e mode.Writer) (all_free c l)));
       active = λ l i. absurd i;
       held = λ a e k h. absurd (cc (sym (all_free a.core.0 a.lane.0) ∙ h));
+      waiting = λ e below. ap (λ c. c.waiting) (same_everywhere m.directory e no_claims) ∙ sym (none_hold (waits_on e) refl m.cores);
+      announced = λ a e h. absurd (cc (sym (all_free a.core.0 a.lane.0) ∙ h));
       apart = λ p q i. absurd i;
     }
   where

@@ -6,12 +6,13 @@ use Rattle.pei_types.specs.declared.inflight_looks.Phase.TheVariants as phase
 use Rattle.pei_types.specs.declared.machines.MachineSpec.{MachineSpec}
 use Rattle.pei_types.specs.declared.operations.Mode.{Mode}
 use Rattle.pei_types.specs.declared.operations.Mode.TheVariants as mode
-use Rattle.pei_types.specs.Blocks.{entry_of, same_core, same_lane}
+use Rattle.pei_types.specs.Blocks.{entry_of}
 use Rattle.pei_types.specs.Claims.{Claims, no_claims}
 use Rattle.pei_types.specs.Coherence.{State, look_in}
 use Rattle.pei_types.specs.Operation.{mode_of}
 use Rattle.pei_types.specs.Recency.{list_at}
 use Rattle.pei_types.specs.Schedule.{LaneClaim, Free, Announced, Held, Spent}
+use Rattle.history_laws.specs.Entering.{LanesApart}
 use Rattle.history_laws.specs.Members.{In}
 use Rattle.history_laws.specs.Tracking.{is_past_issue}
 
@@ -65,4 +66,4 @@ pub record Holding (m : MachineSpec) (s : State) (entries : List Claims) (claims
   pub held : (a : Actor) (e : ℕ) (k : Mode) → claim_at claims a.core.0 a.lane.0 ≡ Held e k → (p : PeiLook) × (look_in s a.core a.lane ≡ Some p) × (entry_of m p.block ≡ e) × (mode_of p.op ≡ k)
   pub waiting : (e : ℕ) → e < m.directory → (slice_index_or entries e no_claims).waiting ≡ count_all (waits_on e) claims
   pub announced : (a : Actor) (e : ℕ) → claim_at claims a.core.0 a.lane.0 ≡ Announced e → (p : PeiLook) × (look_in s a.core a.lane ≡ Some p) × (p.phase ≡ phase.Issued) × (entry_of m p.block ≡ e) × (mode_of p.op ≡ mode.Writer)
-  pub apart : (p q : PeiLook) → In p s.peis → In q s.peis → same_core p.id.core q.id.core ≡ true → same_lane p.lane q.lane ≡ true → p ≡ q
+  pub apart : LanesApart s

@@ -1,5 +1,5 @@
 -- The laws of this crate.
-use Rattle.std.specs.Prelude.{true, false, ◌≡◌, ℕ, ◌<◌, length, Bool, not, ◌&&◌, IsTrue, List, [], ◌∷◌, ◌++◌, map, filter, find, Some, None, option_map}
+use Rattle.std.specs.Prelude.{true, false, ◌≡◌, ◌↔◌, ℕ, ◌<◌, length, Bool, not, ◌&&◌, IsTrue, List, [], ◌∷◌, ◌++◌, map, filter, find, Some, None, option_map}
 use Rattle.std.specs.List.{list_all, AllPairs}
 use Rattle.pei_types.specs.declared.identifiers.Actor.{Actor}
 use Rattle.pei_types.specs.declared.identifiers.BlockNo.{BlockNo}
@@ -11,24 +11,27 @@ use Rattle.pei_types.specs.declared.inflight_looks.Phase.TheVariants as phase
 use Rattle.pei_types.specs.declared.operations.Mode.{Mode}
 use Rattle.pei_types.specs.declared.events.Event.{Event}
 use Rattle.pei_types.specs.declared.events.EventKind.{EventKind}
+use Rattle.pei_types.specs.declared.events.EventKind.TheVariants as event
 use Rattle.pei_types.specs.declared.machines.MachineSpec.{MachineSpec}
 use Rattle.pei_types.specs.Blocks.{entry_of, same_core, same_pei, same_lane}
 use Rattle.pei_types.specs.Calls.{AnswersCall, all_left, is_actor_of, FollowsPei, follows_phase}
 use Rattle.pei_types.specs.Coherence.{State, entry_is_taken, start_state, next_state, state_after, conflict, first_unentered, first_unfinished, fence_of, look_in, look_of, pei_id}
 use Rattle.pei_types.specs.Core.{CoreNext, next_of_core}
+use Rattle.pei_types.specs.Exclusion.{conflicts, EntersAlone}
 use Rattle.pei_types.specs.Fence.{earlier_writers_left}
-use Rattle.pei_types.specs.History.{Pei, pei_of, phase_of, issued_peis, has_entered, unfinished_peis, active_peis}
+use Rattle.pei_types.specs.History.{Pei, pei_of, phase_of, issued_peis, has_entered, unfinished_peis, active_peis, entered_peis}
 use Rattle.pei_types.specs.Legal.{EachEvent, Legal, MachineLegal, FlatLegal, MeetsFlat, MeetsAll}
 use Rattle.pei_types.specs.Guard.{guard}
 use Rattle.pei_types.specs.Turns.{IsNextOf, PlacesByMonitor}
 use Rattle.pei_types.specs.Operation.{mode_of}
 use Rattle.pei_types.specs.Program.{Listing, Contents}
 use Rattle.pei_types.specs.Race.{racing_pei}
-use Rattle.pei_types.specs.Schedule.{Run, run_at_start, turn, Policy, LaneClaim, Held, whole_table, plain_table, scheduled_run, round_robin, serial, by_draws, by_list}
+use Rattle.pei_types.specs.Schedule.{Run, run_at_start, turn, Policy, LaneClaim, Held, whole_table, scheduled_run, round_robin, serial, by_draws, by_list}
 use Rattle.pei_types.specs.Claims.{Claims}
+use Rattle.history_laws.specs.Entering.{LanesApart}
 use Rattle.history_laws.specs.Holding.{claim_at, Holding}
 use Rattle.history_laws.specs.Members.{In}
-use Rattle.history_laws.specs.Tracking.{as_issued, is_past_issue, IsTracked, Agrees, issues_next, IsTrackable}
+use Rattle.history_laws.specs.Tracking.{as_issued, is_past_issue, fence_is_on, IsTracked, Agrees, issues_next, IsTrackable}
 use Rattle.history_laws.specs.Fits.{Fits, AsksForFence, EntersFree}
 use Rattle.history_laws.specs.Runs.{WholeRun}
 use Rattle.history_laws.specs.Sound.{Sound, IsSoundEvent, SoundRun, ChoosesActors, IssuesUnfenced, GoesByRow, MeetsState}
@@ -81,12 +84,8 @@ pub record RunsGoOn : Type 0 where
   pub start : (p : Listing) (m : MachineSpec) (image : Contents) → SoundRun p m image []
   pub next : (p : Listing) (m : MachineSpec) (image : Contents) (journal : List Event) (a : Actor) (kind : EventKind) → Fits (next_of_core p m image journal a.core) m image journal (state_after m journal) a kind → SoundRun p m image journal → SoundRun p m image (journal ++ record { actor = a; kind = kind } ∷ [])
 
--- Every scheduled run of the plain machine is legal on the flat machine, by any policy that chooses the machine's
--- actors, as the built-in ones do, and a list of such actors.
-pub record PlainRunsAreLegal : Type 0 where
-  pub legal : (p : Listing) (m : MachineSpec) (image : Contents) (policy : Policy) (n : ℕ) → ChoosesActors m policy → FlatLegal p m image (scheduled_run (plain_table m image) p m image policy n).journal
-  pub sound : (p : Listing) (m : MachineSpec) (image : Contents) (policy : Policy) (n : ℕ) → ChoosesActors m policy → SoundRun p m image (scheduled_run (plain_table m image) p m image policy n).journal
-  pub step : (p : Listing) (m : MachineSpec) (image : Contents) (r : Run) (a : Actor) → IsTrue (is_actor_of m a) → SoundRun p m image r.journal → SoundRun p m image (turn (plain_table m image) p m image r a).journal
+-- The built-in policies give turns only to actors of the machine, and so does a list of such actors.
+pub record PoliciesChooseActors : Type 0 where
   pub turns : (m : MachineSpec) → ChoosesActors m (round_robin m)
   pub serial : (m : MachineSpec) → ChoosesActors m (serial m)
   pub draws : (m : MachineSpec) (f : ℕ → ℕ) → ChoosesActors m (by_draws m f)

@@ -8,7 +8,7 @@ use Rattle.pei_types.specs.Schedule.{Run}
 use Rattle.history_laws.specs.Holding.{Holding}
 use Rattle.history_laws.specs.Sound.{SoundRun, GoesByRow}
 
--- Its journal is a sound run's and goes by rows, its directory counts who holds what, and it is within the journal's room.
+-- Its journal is a sound run's and goes by rows, its directory counts who holds each entry and who waits for it, and it is within the journal's room.
 pub record WholeRun (p : Listing) (m : MachineSpec) (image : Contents) (r : Run) : Type 0 where
   pub run : SoundRun p m image r.journal
   pub holding : Holding m (state_after m r.journal) r.entries r.claims

@@ -1,7 +1,7 @@
 //! The laws, each the contract of a function with an empty body.
 
 ghost use Rattle.history_laws.specs.Fenced.{FencesNeedTheirCore};
-ghost use Rattle.history_laws.specs.Laws.{StatesAgree, AgreementTells, SoundGrows, FittingMeets, RunsGoOn, PlainRunsAreLegal, JournalsAreSound, NextEventsMeet, WholeRunsAreLegal, RestIsState};
+ghost use Rattle.history_laws.specs.Laws.{StatesAgree, AgreementTells, ExclusionTells, SoundGrows, FittingMeets, RunsGoOn, PoliciesChooseActors, JournalsAreSound, NextEventsMeet, WholeRunsAreLegal, RestIsState};
 
 /// The state after a journal and the journal's own history name the same PEIs on their way, in the same phases, and the
 /// same issues and fences.
@@ -15,8 +15,15 @@ pub fn agreement_tells()
     ensures { AgreementTells }
 {}
 
-/// A journal stays sound, with PEIs active in the order of their issue, without conflict, and fences that settle, by
-/// each event that enters its PEI in turn and alone, and keeps its core's fence.
+/// So can exclusion: a PEI conflicts with no active PEI of the history exactly where its entry is not taken in the
+/// state, and one that is to enter next in its lane enters alone exactly where it finds its entry free.
+pub fn exclusion_tells()
+    ensures { ExclusionTells }
+{}
+
+/// A journal stays sound, with PEIs active in the order of their issue, without conflict, and fences that settle (behind
+/// one that has ended, each writer issued before it began has left), by each event that enters its PEI in turn and alone,
+/// and keeps its core's fence.
 pub fn sound_journals_grow()
     ensures { SoundGrows }
 {}
@@ -33,10 +40,10 @@ pub fn runs_go_on()
     ensures { RunsGoOn }
 {}
 
-/// Every scheduled run of the plain machine, which has one memory and no caches, is legal on the flat machine, by each
-/// built-in policy.
-pub fn plain_runs_are_legal()
-    ensures { PlainRunsAreLegal }
+/// Each built-in policy gives turns only to actors of the machine: in turn, one actor until it stalls, by draws, or by a
+/// list of such actors.
+pub fn policies_choose_actors()
+    ensures { PoliciesChooseActors }
 {}
 
 /// A legal journal is that of a sound run, and one of the machine below the cores is sound where no core issues while
@@ -46,13 +53,14 @@ pub fn legal_journals_are_sound()
 {}
 
 /// On the whole machine the next row of an actor meets the clauses on the flat machine, for any call that its core may
-/// have made, and leaves the journal sound.
+/// have made, where a PEI that enters finds its entry free; and it leaves the journal sound where a core whose fence is on
+/// goes on asking for it.
 pub fn next_events_meet()
     ensures { NextEventsMeet }
 {}
 
 /// Every scheduled run of the whole machine goes by rows and is legal on the flat machine, turn by turn, and its directory
-/// counts who holds what, so that a PEI that holds its entry may enter.
+/// counts who holds each entry and who waits for it, so that a PEI that holds its entry may enter.
 pub fn whole_runs_are_legal()
     ensures { WholeRunsAreLegal }
 {}

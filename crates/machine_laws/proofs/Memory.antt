@@ -1,10 +1,11 @@
 -- Caches, vaults and buffers that hold memory, event by event.
-use Rattle.std.proofs.Common.{◌≡◌, false, List, [], ◌∷◌, ◌++◌, IsTrue, refl, sym, subst}
+use Rattle.std.proofs.Common.{◌≡◌, ℕ, false, List, [], ◌∷◌, ◌++◌, IsTrue, refl, sym, subst}
 use Rattle.std.proofs.lemmas.List.{append_assoc, append-nil}
 use Rattle.pei_types.specs.declared.identifiers.Actor.{Actor}
 use Rattle.pei_types.specs.declared.identifiers.Block.{Block}
 use Rattle.pei_types.specs.declared.identifiers.BlockNo.{BlockNo}
 use Rattle.pei_types.specs.declared.inflight_looks.PeiLook.{PeiLook}
+use Rattle.pei_types.specs.declared.inflight_looks.Phase.TheVariants as phase
 use Rattle.pei_types.specs.declared.events.Event.{Event}
 use Rattle.pei_types.specs.declared.events.EventKind.{EventKind}
 use Rattle.pei_types.specs.declared.events.EventKind.TheVariants as event
@@ -60,6 +61,12 @@ memory_next keeps contents follows m s k memory a kind i own ok alone h =
       current = follows.holds m (next_state m s a kind) (next_holdings m s k a kind) (next_data m s (data_of m k) a kind) (next_flat s memory a kind) after f (contents.next m s (data_of m k) memory a kind i own ok h.current);
       buffers = follows.buffers m (next_state m s a kind) (next_holdings m s k a kind) (next_data m s (data_of m k) a kind) (next_flat s memory a kind) f (contents.buffers m s (data_of m k) memory a kind i ok alone h.current h.buffers);
     }
+
+-- an issue, into any lane, under any name
+pub memory_issued : KeepsContents → (m : MachineSpec) (s : State) (k : Holdings) (memory : BlockNo → Block) (new : PeiLook) (counts : List ℕ) → new.phase ≡ phase.Issued → HoldsMemory m s k memory → HoldsMemory m (record s { peis = s.peis ++ new ∷ []; issues = counts }) k memory
+memory_issued contents m s k memory new counts issued h =
+    let after = contents.issued m s (data_of m k) memory new counts issued h.current h.buffers
+    in record { l1 = h.l1; llc = h.llc; current = after.0; buffers = after.1 }
 
 -- a message
 message_alone : (s : State) (kind : EventKind) → side_of kind ≡ Messages → IsNoRace s kind

@@ -7,7 +7,7 @@ use Rattle.pei_types.specs.Legal.{EachEvent, EachFrom, Legal, Meets}
 use Rattle.pei_types.specs.Program.{Listing, Contents}
 use Rattle.pei_types.specs.Schedule.{Run, Policy, scheduled_run, whole_table, round_robin, serial, by_draws, by_list}
 use Rattle.pei_types.proofs.Histories.{each_of_from, from_of_each, each_prefix}
-use Rattle.history_laws.specs.Laws.{NextEventsMeet, PlainRunsAreLegal, RunsGoOn, WholeRunsAreLegal as WholeRunsGoByRows}
+use Rattle.history_laws.specs.Laws.{NextEventsMeet, PoliciesChooseActors, RunsGoOn, WholeRunsAreLegal as WholeRunsGoByRows}
 use Rattle.history_laws.specs.Runs.{WholeRun}
 use Rattle.history_laws.specs.Sound.{ChoosesActors, GoesByRow}
 use Rattle.machine_laws.specs.Laws.{MachineGoesOn, RowsMeetAll, RowsMakeLegal, WholeRunsAreLegal}
@@ -64,15 +64,15 @@ so_far make p m image r run =
     let legal : Legal p m image r.journal = make.legal p m image r.journal run.rows
     in (legal, make.order p m image r.journal legal)
 
-pub whole_runs_legal : PlainRunsAreLegal → WholeRunsGoByRows → RowsMakeLegal → WholeRunsAreLegal
-whole_runs_legal plain whole make =
+pub whole_runs_legal : PoliciesChooseActors → WholeRunsGoByRows → RowsMakeLegal → WholeRunsAreLegal
+whole_runs_legal chooses whole make =
     record {
       start = whole.start;
       turn = whole.step;
       so_far = so_far make;
       legal = whole_run_is_legal whole make;
-      in_turn = λ p m image n. whole_run_is_legal whole make p m image (round_robin m) n (plain.turns m);
-      serial = λ p m image n. whole_run_is_legal whole make p m image (serial m) n (plain.serial m);
-      drawn = λ p m image draws n. whole_run_is_legal whole make p m image (by_draws m draws) n (plain.draws m draws);
-      listed = λ p m image list n all. whole_run_is_legal whole make p m image (by_list list) n (plain.lists m list all);
+      in_turn = λ p m image n. whole_run_is_legal whole make p m image (round_robin m) n (chooses.turns m);
+      serial = λ p m image n. whole_run_is_legal whole make p m image (serial m) n (chooses.serial m);
+      drawn = λ p m image draws n. whole_run_is_legal whole make p m image (by_draws m draws) n (chooses.draws m draws);
+      listed = λ p m image list n all. whole_run_is_legal whole make p m image (by_list list) n (chooses.lists m list all);
     }

@@ -78,9 +78,10 @@ pub record WholeRunsAreLegal : Type 0 where
 
 -- Caches, vaults and operand buffers that hold some memory. They do from the start. After an event of an actor of the
 -- machine that meets its guard and does not race they hold that memory as the event leaves it, changed by a store or an
--- act alone; so a message changes no block. An issue into any lane, under any name, changes none. What is seen of a block, what a core finds in its copy, what is in the buffer
--- of a PEI that has read, and what a sealed PEI finds in its vault, is what memory holds. Next event by next event, with
--- any call, the memory that they hold is flat memory after the journal.
+-- act alone; so a message changes no block. An issue into any lane, under any name, changes none. What is seen of a
+-- block, what a core finds in its copy, what is in the buffer of a PEI that has read, and what a sealed PEI finds in its
+-- vault, is what memory holds. Next event by next event, with any call, the memory that they hold is flat memory after
+-- the journal.
 pub record ContentsAreKept : Type 0 where
   pub start : (m : MachineSpec) (image : Contents) → HoldsMemory m (start_state m) (start_holdings m image) (block_at image)
   pub next : (m : MachineSpec) (s : State) (k : Holdings) (memory : BlockNo → Block) (a : Actor) (kind : EventKind) → Invariants m s → IsTrue (is_actor_of m a) → IsTrue (guard m s a kind) → IsNoRace s kind → HoldsMemory m s k memory → HoldsMemory m (next_state m s a kind) (next_holdings m s k a kind) (next_flat s memory a kind)

@@ -46,7 +46,7 @@ pub fn rows_make_legal()
 pub fn whole_runs_are_legal()
     ensures { WholeRunsAreLegal }
 {
-    histories::plain_runs_are_legal();
+    histories::policies_choose_actors();
     histories::whole_runs_are_legal();
     rows_make_legal();
 }

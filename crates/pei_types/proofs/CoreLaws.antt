@@ -1,5 +1,5 @@
 -- A core runs on by one instruction.
-use Rattle.std.proofs.Common.{◌≡◌, ℕ, suc, ◌+◌, ◌-◌, ◌<◌, ◌∙◌, ap, arith}
+use Rattle.std.proofs.Common.{◌≡◌, suc, ◌+◌, ◌-◌, ◌<◌, ◌∙◌, ap, arith}
 use Rattle.pei_types.specs.declared.machines.CoreConfig.{CoreConfig}
 use Rattle.pei_types.specs.Core.{CoreState, Retires, Stops, core_step, after_steps, at_stop}
 use Rattle.pei_types.specs.Program.{Listing}

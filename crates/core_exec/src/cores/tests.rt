@@ -12,6 +12,12 @@ use std::test::Fail;
 /// Memory has the addresses below 1,024.
 const BLOCKS: u32 = 16;
 
+/// What each core is given.
+const CONFIG: CoreConfig = CoreConfig {
+    fuel: 100,
+    blocks: BLOCKS,
+};
+
 /// What core 5 does next on `li r1, a; li r2, b; INSTR; out r3; out r2`, of which `out r2` has the index 4.
 fn next_within(
     alloc: Global,
@@ -29,7 +35,7 @@ fn next_within(
     program.push_instr(Instr::Out { ra: 3 })?;
     program.push_instr(Instr::Out { ra: 2 })?;
     let image = Image::make(alloc, BLOCKS)?;
-    Ok(Core::make(&image, CoreId(5)).next_call(&program, fuel, BLOCKS))
+    Ok(Core::make(&image, CoreId(5)).next_call(&program, CoreConfig { fuel, ..CONFIG }))
 }
 
 /// The same with ample fuel.
@@ -41,7 +47,7 @@ fn next_after(alloc: Global, instr: Instr, a: u64, b: u64) -> Result<CoreNext, O
 
 /// What the core does next, which this event answers if it asks for something.
 fn answered(core: &mut Core, program: &Program, kind: EventKind) -> CoreNext {
-    let next = core.next_call(program, 100, BLOCKS);
+    let next = core.next_call(program, CONFIG);
     let asks = match next {
         CoreNext::Call(Call::End { .. }) | CoreNext::Busy { .. } | CoreNext::Ended(_) => false,
         CoreNext::Call(_) => true,
@@ -281,15 +287,15 @@ fn waits_for_replies(rt: HostRuntime) -> Result<(), Fail> {
             seq: 0,
         },
     };
-    assert_eq!(rt; core.next_call(&program, 100, BLOCKS), busy);
+    assert_eq!(rt; core.next_call(&program, CONFIG), busy);
     core.answer(&event(act(1, [11, 0])));
-    assert_eq!(rt; core.next_call(&program, 100, BLOCKS), busy);
+    assert_eq!(rt; core.next_call(&program, CONFIG), busy);
     core.answer(&event(act(0, [7, 9])));
     assert_eq!(rt;
         answered(&mut core, &program, EventKind::Out { value: 2 }),
         out(2)
     );
-    assert_eq!(rt; core.next_call(&program, 100, BLOCKS), out(11));
+    assert_eq!(rt; core.next_call(&program, CONFIG), out(11));
     Ok(())
 }
 
@@ -332,11 +338,8 @@ fn takes_answers(rt: HostRuntime) -> Result<(), Fail> {
         store
     );
     let kind = EndKind::Race { pc, block, by };
-    assert_eq!(rt; core.next_call(&program, 100, BLOCKS), end(kind));
+    assert_eq!(rt; core.next_call(&program, CONFIG), end(kind));
     core.answer(&event(EventKind::End { kind }));
-    assert_eq!(rt;
-        core.next_call(&program, 100, BLOCKS),
-        CoreNext::Ended(kind)
-    );
+    assert_eq!(rt; core.next_call(&program, CONFIG), CoreNext::Ended(kind));
     Ok(())
 }

@@ -1,4 +1,4 @@
-use Rattle.history_laws.proofs.Derived.{look_found, look_lost, look_follows, conflict_agrees, unfinished_agrees, unentered_agrees, active_agrees, all_left_agrees, look_tracked, look_same, ids_distinct, fence_ends_rightly}
+use Rattle.history_laws.proofs.Derived.{look_found, look_lost, look_follows, conflict_agrees, unfinished_agrees, unentered_agrees, active_agrees, all_left_agrees, look_tracked, look_same, ids_distinct, fence_agrees}
 use Rattle.history_laws.proofs.laws.agreement_tells.Goals as goal
 
 pub returns : goal.returns
@@ -14,5 +14,5 @@ returns c = record {
   found = look_found;
   lost = look_lost;
   follows = look_follows;
-  fence = fence_ends_rightly;
+  fence = fence_agrees;
 }

@@ -1,4 +1,4 @@
-use Rattle.history_laws.proofs.Plain.{sound_meets}
+use Rattle.history_laws.proofs.Fitting.{sound_meets}
 use Rattle.history_laws.proofs.laws.fitting_events_meet.Goals as goal
 
 pub returns : goal.returns

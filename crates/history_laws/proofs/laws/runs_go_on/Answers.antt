@@ -1,5 +1,5 @@
 use Rattle.history_laws.proofs.Programs.{asks_next}
-use Rattle.history_laws.proofs.Plain.{run_starts, run_next}
+use Rattle.history_laws.proofs.Fitting.{run_starts, run_next}
 use Rattle.history_laws.proofs.laws.runs_go_on.Goals as goal
 
 pub returns : goal.returns

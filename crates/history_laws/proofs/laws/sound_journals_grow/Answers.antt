@@ -1,4 +1,4 @@
-use Rattle.history_laws.proofs.Plain.{sound_at_start, sound_next, fits_sound}
+use Rattle.history_laws.proofs.Fitting.{sound_at_start, sound_next, fits_sound}
 use Rattle.history_laws.proofs.laws.sound_journals_grow.Goals as goal
 
 pub returns : goal.returns

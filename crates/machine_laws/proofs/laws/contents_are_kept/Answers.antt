@@ -1,5 +1,5 @@
 use Rattle.coherence_laws.specs.Holdings.{data_of}
-use Rattle.machine_laws.proofs.Memory.{Laws, memory_at_start, memory_next, memory_message, memory_seen, memory_shows, memory_kept, memory_event, memory_journal}
+use Rattle.machine_laws.proofs.Memory.{Laws, memory_at_start, memory_next, memory_issued, memory_message, memory_seen, memory_shows, memory_kept, memory_event, memory_journal}
 use Rattle.machine_laws.proofs.laws.contents_are_kept.Goals as goal
 
 pub returns : goal.returns
@@ -13,6 +13,7 @@ returns c =
     in record {
       start = memory_at_start follows keeps flat;
       next = memory_next keeps contents follows;
+      issued = memory_issued contents;
       message = memory_message keeps contents follows;
       seen = memory_seen contents;
       shows = memory_shows keeps contents follows;
