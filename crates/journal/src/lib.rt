@@ -1,12 +1,22 @@
-//! The journal of a run: its events, in the order in which they were made.
+//! The journal of a run: its events, in the order in which they were made; and the text of a journal, its trace, both ways.
 #![tactic(auto)]
 
 ghost use Rattle.journal.specs.Counted.{stats_of};
 ghost use Rattle.std.specs.Prelude.{◌≡◌, [], ◌∷◌, ◌++◌, ◌-◌, ◌<◌, ◌≤◌, ◌↔◌, length, Some, slice_get, IsTrue, IfOk};
 
+mod event_lines;
+mod event_words;
+pub mod laws;
+mod lines;
+mod names;
+mod ranges;
+mod reading;
 mod stats;
+mod words;
+mod writing;
 
 use pei_types::{Event, OutOfMemory};
+pub use reading::{TraceFault, read_trace};
 pub use stats::Stats;
 use std::alloc::Global;
 use std::marker::Model;
@@ -106,36 +116,4 @@ impl Journal {
 }
 
 #[cfg(test)]
-mod tests {
-    use super::*;
-    use pei_types::{Actor, CoreId, EventKind, Lane};
-    use std::test::Fail;
-
-    #[test]
-    fn keeps_two_events(rt: HostRuntime) -> Result<(), Fail> {
-        let actor = Actor {
-            core: CoreId(3),
-            lane: Lane(0),
-        };
-        let first = Event {
-            actor,
-            kind: EventKind::Out { value: 7 },
-        };
-        let second = Event {
-            actor,
-            kind: EventKind::FenceBegin,
-        };
-        let mut journal = Journal::make(rt.alloc(), 5)?;
-        assert!(rt; journal.is_empty());
-        assert_eq!(rt; journal.spare(), 5);
-        journal.push(first);
-        journal.push(second);
-        assert_eq!(rt; (journal.len(), journal.spare()), (2, 3));
-        assert_eq!(rt; (journal.get(0), journal.get(1)), (first, second));
-        assert_eq!(rt; journal.events(), [first, second].as_slice());
-        assert!(rt; !journal.is_empty());
-        let counts = journal.counts();
-        assert_eq!(rt; (counts.events, counts.fences, counts.loads), (2, 1, 0));
-        Ok(())
-    }
-}
+mod tests;

@@ -99,6 +99,23 @@ impl Monitor {
         }
     }
 
+    /// Where a PEI on a block would be placed. Nothing changes.
+    pub fn placement(&self, b: BlockNo) -> Place
+        ensures { result ≡ place_of self.now b }
+    {
+        sets_follow::<Entry>();
+        let set = self.tags.home(b.0);
+        let tag = partial_tag(&self.tags, b);
+        let Some(slot) = self.tags.find(set, tag) else {
+            return Place::Memory;
+        };
+        let entry = &self.entries[slot as usize];
+        if entry.flag {
+            return Place::Memory;
+        }
+        Place::Host
+    }
+
     /// Places a PEI on a block. Where the block's entry is there with the flag clear, that is at the host, and nothing
     /// changes. Else it is in memory: an entry with the flag set goes to the front, and the flag is cleared; where
     /// there is none, a new one with the flag set goes in front, and a full set drops its last entry first.
