@@ -1,5 +1,4 @@
 mod Loops
 mod ReportLines
 mod StatisticsLines
-mod FlatReport
 mod Parts

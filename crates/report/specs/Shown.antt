@@ -1,4 +1,4 @@
--- The report, with memory as it is.
+-- The parts of the report.
 use Rattle.std.specs.Prelude.{◌≡◌, ℕ, ◌+◌, ◌*◌, ◌/◌, ◌%◌, ◌^◌, ◌<◌, if◌then◌else◌, List, [], ◌∷◌, ◌++◌, map, sum, Option, codes, decimal, slice_index}
 use Rattle.std.specs.List.{flat_map}
 use Rattle.pei_types.specs.declared.identifiers.CoreId.{CoreId}
@@ -9,10 +9,8 @@ use Rattle.pei_types.specs.declared.events.Event.{Event}
 use Rattle.pei_types.specs.declared.machines.MachineSpec.{MachineSpec}
 use Rattle.pei_types.specs.Coherence.{cores_of}
 use Rattle.pei_types.specs.Ends.{outputs_of, status_of}
-use Rattle.pei_types.specs.FlatMemory.{flat_word}
-use Rattle.pei_types.specs.Program.{Listing, Contents}
+use Rattle.pei_types.specs.Program.{Listing}
 use Rattle.pei_types.specs.Texts.{line, spaced, how_ended, output_lines, core_lines, addresses, stat_lines}
-use Rattle.sched_run.specs.PlainMachine.{Playing}
 
 -- ---- cores
 
@@ -35,25 +33,9 @@ abbrev pub HasWords : ℕ → Ask → Type 0
 HasWords size (ask.Show addr count) = AreWords size addr count
 HasWords size (ask.Sum addr count) = AreWords size addr count
 
--- the word at an address, of the words of memory
-abbrev pub word_in : List ℕ → ℕ → ℕ
-word_in words addr = slice_index words (addr / 8)
-
--- the line of the word at an address, and of the sum of words
+-- the line of the word at an address
 abbrev pub word_line : (ℕ → ℕ) → ℕ → List ℕ
 word_line word addr = line (codes "mem" ∷ decimal addr ∷ decimal (word addr) ∷ [])
-
-abbrev pub sum_line : (ℕ → ℕ) → ℕ → ℕ → List ℕ
-sum_line word addr count = line (codes "sum" ∷ decimal addr ∷ decimal count ∷ decimal (sum (map word (addresses addr count)) % 2 ^ 64) ∷ [])
-
--- the lines of an ask, where memory has this word at each address
-abbrev pub shown_lines : (ℕ → ℕ) → Ask → List ℕ
-shown_lines word (ask.Show addr count) = flat_map (word_line word) (addresses addr count)
-shown_lines word (ask.Sum addr count) = sum_line word addr count
-
--- Each word of memory is flat memory's, of the journal from this image.
-abbrev pub HoldsFlat : Contents → Playing → Type 0
-HoldsFlat image v = (addr : ℕ) → addr % 8 ≡ 0 → addr < 64 * v.machine.blocks → word_in v.words addr ≡ flat_word image v.journal addr
 
 -- ---- the whole
 
@@ -61,8 +43,7 @@ HoldsFlat image v = (addr : ℕ) → addr % 8 ≡ 0 → addr < 64 * v.machine.bl
 abbrev pub asked_stats : Listing → List Event → List ℕ
 asked_stats p journal = if p.statistics then stat_lines journal else []
 
--- the report, where memory has this word at each address
-abbrev pub shown_report : (ℕ → ℕ) → Listing → MachineSpec → List Event → List ℕ
-shown_report word p m journal =
-    flat_map (core_lines journal) (cores_of m) ++ flat_map (shown_lines word) p.asks
-    ++ asked_stats p journal ++ line (codes "status" ∷ decimal (status_of m journal) ∷ [])
+-- the report of a journal, with these lines of what is asked of memory
+abbrev pub report_with : List ℕ → Listing → MachineSpec → List Event → List ℕ
+report_with asked p m journal =
+    flat_map (core_lines journal) (cores_of m) ++ asked ++ asked_stats p journal ++ line (codes "status" ∷ decimal (status_of m journal) ∷ [])

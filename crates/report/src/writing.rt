@@ -1,32 +1,30 @@
 //! The whole report.
 
-ghost use Rattle.std.specs.Prelude.{◌≡◌, ◌*◌, [], ◌∷◌, All, codes, decimal};
+ghost use Rattle.std.specs.Prelude.{◌≡◌, ◌*◌, [], ◌∷◌, All, codes, decimal, flat_map};
 ghost use Rattle.pei_io.specs.Outside.{Writes};
 ghost use Rattle.pei_types.specs.Ends.{ends_of, status_of};
-ghost use Rattle.pei_types.specs.Program.{Contents};
-ghost use Rattle.pei_types.specs.Texts.{line, report_text};
-ghost use Rattle.report.specs.Shown.{HasWords, HoldsFlat, word_in, shown_report, asked_stats};
+ghost use Rattle.pei_types.specs.Texts.{line, ask_lines, report_text};
+ghost use Rattle.report.specs.Shown.{HasWords, asked_stats, report_with};
 
 use crate::asks::write_asks;
 use crate::cores::write_cores;
 use crate::lines::Line;
 use crate::statistics::write_stats;
+use fabric::Fabric;
 use journal::Journal;
 use pei_io::laws::writes_join;
 use pei_io::{Failed, Sink};
 use pei_types::{EndKind, MachineSpec, Program};
-use sched_run::Plain;
 
 /// Writes the report of a run, one line a piece, without memory: for each core its outputs and how it ended, the words or
 /// sums that the program asks for, the statistics if it asks for them, and the status. Sums are modulo 2^64.
 ///
 /// The conditions are that the words of each ask are aligned and in memory, and that `cores` and `status` are those of the
-/// machine's journal. The only error is a fault of the sink, after a front of the report was written. Where memory is that
-/// of the journal from an image, the text is the report of that image.
+/// machine's journal. The only error is a fault of the sink, after a front of the report was written.
 pub fn write_report<K: Sink>(
     program: &Program,
     spec: &MachineSpec,
-    fabric: &Plain,
+    fabric: &Fabric,
     cores: &[Option<EndKind>; 8],
     status: u8,
     sink: &mut K,
@@ -34,17 +32,16 @@ pub fn write_report<K: Sink>(
     requires asks { All (HasWords (64 * fabric.now.machine.blocks)) program.now.asks }
     requires cores { cores.now ≡ ends_of fabric.now.journal }
     requires status { status ≡ status_of spec.now fabric.now.journal }
-    ensures shown { Writes (shown_report (word_in fabric.now.words) program.now spec.now fabric.now.journal) (K.written sink.old) (K.written sink.new) (K.faults sink.old) (K.faults sink.new) result }
-    ensures flat { (image : Contents) → HoldsFlat image fabric.now → Writes (report_text program.now spec.now image fabric.now.journal) (K.written sink.old) (K.written sink.new) (K.faults sink.old) (K.faults sink.new) result }
+    ensures { Writes (report_text program.now spec.now fabric.now.image fabric.now.journal) (K.written sink.old) (K.written sink.new) (K.faults sink.old) (K.faults sink.new) result }
 {
-    write_shown(program, spec, fabric, fabric.journal(), cores, status, sink)
+    write_parts(program, spec, fabric, fabric.journal(), cores, status, sink)
 }
 
-/// Writes the report of a journal, with memory as it is.
-fn write_shown<K: Sink>(
+/// Writes the parts of the report, one behind another.
+fn write_parts<K: Sink>(
     program: &Program,
     spec: &MachineSpec,
-    fabric: &Plain,
+    fabric: &Fabric,
     journal: &Journal,
     cores: &[Option<EndKind>; 8],
     status: u8,
@@ -53,7 +50,7 @@ fn write_shown<K: Sink>(
     requires asks { All (HasWords (64 * fabric.now.machine.blocks)) program.now.asks }
     requires cores { cores.now ≡ ends_of journal.now.events }
     requires status { status ≡ status_of spec.now journal.now.events }
-    ensures { Writes (shown_report (word_in fabric.now.words) program.now spec.now journal.now.events) (K.written sink.old) (K.written sink.new) (K.faults sink.old) (K.faults sink.new) result }
+    ensures { Writes (report_with (flat_map (ask_lines fabric.now.image fabric.now.journal) program.now.asks) program.now spec.now journal.now.events) (K.written sink.old) (K.written sink.new) (K.faults sink.old) (K.faults sink.new) result }
 {
     writes_join();
     write_cores(journal, spec, cores, sink)?;
