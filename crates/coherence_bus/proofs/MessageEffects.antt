@@ -16,7 +16,7 @@ use Rattle.pei_types.specs.declared.lines.CopyLine.{CopyLine}
 use Rattle.pei_types.specs.declared.lines.HeldLine.{HeldLine}
 use Rattle.pei_types.specs.declared.machines.MachineSpec.{MachineSpec}
 use Rattle.pei_types.specs.Blocks.{l1_set_of, llc_set_of}
-use Rattle.pei_types.specs.Coherence.{State, letter_of, mark_of, is_i, is_ahead, is_owned, is_absent, is_clean, is_dirty, none_has, none_owns, no_other_has, no_other_owns, is_sealed, writer_is_sealed, llc_set, l1_set, is_line_of, is_llc_line_of, after_invalidating, after_downgrading}
+use Rattle.pei_types.specs.Coherence.{State, letter_of, mark_of, cores_of, is_i, is_ahead, is_owned, is_absent, is_clean, is_dirty, none_has, none_owns, no_other_has, no_other_owns, is_sealed, writer_is_sealed, llc_set, l1_set, is_line_of, is_llc_line_of, after_invalidating, after_downgrading}
 use Rattle.pei_types.specs.Guard.{guard, l1_has_room, llc_has_room}
 use Rattle.pei_types.specs.Recency.{change_at, without, to_front, victim}
 use Rattle.pei_types.proofs.Identities.{same_block_is}
@@ -27,10 +27,11 @@ use Rattle.mesi_l1.specs.Cache as private
 use Rattle.llc.specs.Cache as shared
 use Rattle.stack_vaults.specs.Blocks.{Stack, content_of, with_block}
 use Rattle.coherence_bus.specs.Hierarchy.{Hierarchy, after, granting, program_of, with_caches}
-use Rattle.coherence_bus.specs.Inside.{Coheres, HasSizes, IsKept, bare_state, held, hierarchy_of, holdings, shown}
+use Rattle.coherence_bus.specs.Inside.{Coheres, HasSizes, IsKept, bare_state, held, hierarchy_of, holdings, seen, shown}
 use Rattle.coherence_bus.specs.declared.bus.Bus.TheInside.{Inside}
 use Rattle.coherence_bus.specs.Laws.{Laws}
 use Rattle.coherence_bus.proofs.Effects.{l1_after, ways_after, copy_is, llc_after, line_is, vaults_after, IsInside, within_after, within_same, keeps_without, keeps_front, keeps_map}
+use Rattle.coherence_bus.proofs.Searching.{none_ahead}
 use Rattle.coherence_bus.proofs.Settling.{by_message, Within}
 use Rattle.coherence_bus.proofs.Standing.{cache_is, core_within, count_caches, llc_is}
 
@@ -322,6 +323,10 @@ module _ (laws : Laws) (i : Inside) (kept : IsKept i) where
       let g = five_parts (not (is_owned (letter_of m s c b))) (not (is_absent (mark_of m s b))) (no_other_has m s c b) (not (is_sealed s b)) (not (is_i (letter_of m s c b)) || l1_has_room m s c b) ok
       in (shared_is (letter_of m s c b) there (not-true (is_owned (letter_of m s c b)) g.0), ap is_absent (sym (mark_is b)) ∙ not-true (is_absent (mark_of m s b)) g.1)
 
-  -- a shared copy has the line's content
-  pub shared_content : (c : CoreId) (v d : private.Cache) (b : BlockNo) → c.0 < i.machine.cores → v ≡ get_or i.caches.items c.0 d → letter_of i.machine (bare_state i.machine (held i)) c b ≡ letter.S → private.content_of v b ≡ held_line i.machine (held i) b
-  shared_content c v d b own is letter = copy_here c v d b own is ∙ (kept.coheres.holds.current b).other_copy c (ap is_i letter) (ap is_ahead letter)
+  -- a shared copy that may be written from now on has the line's content
+  pub shared_content : (c : CoreId) (v d : private.Cache) (b : BlockNo) → c.0 < i.machine.cores → v ≡ get_or i.caches.items c.0 d → letter_of i.machine (bare_state i.machine (held i)) c b ≡ letter.S → IsTrue (guard i.machine (bare_state i.machine (held i)) (program_of c) (event.GrantM b)) → private.content_of v b ≡ held_line i.machine (held i) b
+  shared_content c v d b own is letter ok =
+      let g = five_parts (not (is_owned (letter_of m s c b))) (not (is_absent (mark_of m s b))) (no_other_has m s c b) (not (is_sealed s b)) (not (is_i (letter_of m s c b)) || l1_has_room m s c b) ok
+      in let none = none_ahead (λ x. letter_of m s x b) c (cores_of m) letter g.2
+      in let line : seen m k b ≡ held_line m k b = rw (none, not-true (is_absent (mark_of m s b)) g.1) refl
+      in copy_here c v d b own is ∙ (kept.coheres.holds.current b).copy c (ap is_i letter) ∙ line

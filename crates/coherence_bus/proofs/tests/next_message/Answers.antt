@@ -1,4 +1,4 @@
-use Rattle.std.proofs.Common.{sym, ◌∙◌, true, false}
+use Rattle.std.proofs.Common.{sym, ◌∙◌, true}
 use Rattle.coherence_bus.proofs.Driving.{enough, may_make}
 use Rattle.coherence_bus.proofs.tests.next_message.Goals as goal
 
