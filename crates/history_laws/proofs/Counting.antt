@@ -1,5 +1,5 @@
 -- One claim changes: which lane has what, and how many.
-use Rattle.std.proofs.Common.{◌≡◌, ℕ, zero, suc, ◌+◌, ◌<◌, Bool, true, false, List, [], ◌∷◌, length, get_or, eqb, eqb-true, eq-eqb, refl, sym, ◌∙◌, ap, subst, arith}
+use Rattle.std.proofs.Common.{◌≡◌, ℕ, zero, suc, ◌+◌, ◌*◌, ◌<◌, ◌≤◌, Bool, true, false, List, [], ◌∷◌, length, get_or, eqb, eqb-true, eq-eqb, refl, sym, ◌∙◌, ap, subst, arith}
 use Rattle.pei_types.specs.Recency.{change_at, list_at}
 use Rattle.pei_types.specs.Schedule.{LaneClaim, Free}
 use Rattle.history_laws.specs.Holding.{claim_at, one, count_in, count_all}
@@ -64,3 +64,16 @@ pub count_some : (t : LaneClaim → Bool) (xss : List (List LaneClaim)) (c l : �
 count_some t [] c l none h = absurd (cc (sym none ∙ h))
 count_some t (xs ∷ xss) zero l none h = omega (arith, count_in_some t xs l none h)
 count_some t (xs ∷ xss) (suc c) l none h = omega (arith, count_some t xss c l none h)
+
+-- a count is at most the number of lists by their length
+count_in_few : (t : LaneClaim → Bool) (xs : List LaneClaim) → count_in t xs ≤ length xs
+count_in_few t [] = omega arith
+count_in_few t (x ∷ xs) = by (t x) (count_in_few t xs)
+  where
+    by : (b : Bool) → count_in t xs ≤ length xs → one b + count_in t xs ≤ suc (length xs)
+    by true h = omega (arith, h)
+    by false h = omega (arith, h)
+
+pub count_few : (t : LaneClaim → Bool) (xss : List (List LaneClaim)) → ((c : ℕ) → c < length xss → length (list_at xss c) ≤ 5) → count_all t xss ≤ length xss * 5
+count_few t [] h = omega arith
+count_few t (xs ∷ xss) h = omega (arith, count_in_few t xs, h 0 (omega arith), count_few t xss (λ c k. h (suc c) (omega (arith, k))))

@@ -22,10 +22,10 @@ use Rattle.pei_types.specs.Schedule.{LaneClaim, Free, Held, Spent, Announced, af
 use Rattle.history_laws.specs.Members.{In}
 use Rattle.history_laws.specs.Tracking.{is_past_issue}
 use Rattle.history_laws.specs.Entering.{LanesApart}
-use Rattle.history_laws.specs.Holding.{claim_at, holds_entry, same_mode, one, counted, waits_on, Holding}
+use Rattle.history_laws.specs.Holding.{claim_at, holds_entry, same_mode, one, count_all, counted, waits_on, Holding}
 use Rattle.history_laws.proofs.Lists.{get_or-change_at_same, get_or-change_at_other, find_filter, find_Some, find_None, find-map, find_agree, each_in, in_map, in_filter, in_push}
 use Rattle.history_laws.proofs.Agree.{moved}
-use Rattle.history_laws.proofs.Counting.{changed, claim_here, claim_other, length-changed, count_change, count_some}
+use Rattle.history_laws.proofs.Counting.{changed, claim_here, claim_other, length-changed, count_change, count_few, count_some}
 use Rattle.std.proofs.lemmas.Bool.{not-true, and_parts}
 use Rattle.std.proofs.lemmas.Option.{same_Some}
 use Rattle.pei_types.proofs.Groups.{entry_below}
@@ -640,3 +640,23 @@ holding_left m s t entries claims a seq l actor same i named lane past unique h 
         by : ((a.core.0 ≡ b.core.0) × (a.lane.0 ≡ b.lane.0)) ⊎ ((a.core.0 ≡ b.core.0) × (a.lane.0 ≡ b.lane.0) → ⊥) → (p : PeiLook) × (look_in t b.core b.lane ≡ Some p) × (p.phase ≡ phase.Issued) × (entry_of m p.block ≡ e) × (mode_of p.op ≡ mode.Writer)
         by (inl p) = absurd (cc (spent_here b (Announced e) p g))
         by (inr p) = let r = h.announced b e (sym (other b.core.0 b.lane.0 p) ∙ g) in (r.0, elsewhere b r.0 p r.1, r.2, r.3, r.4)
+
+-- ---- what the counts tell
+
+pub held_counts : (m : MachineSpec) (s : State) (entries : List Claims) (claims : List (List LaneClaim)) → Holding m s entries claims → (c l e : ℕ) (k : Mode) → holds_entry e k (claim_at claims c l) ≡ true → 0 < counted k (get_or entries e no_claims)
+held_counts m s entries claims h c l e k holds = subst (λ n. 0 < n) (sym (h.counts e k (h.below c l e k holds))) (count_some (holds_entry e k) claims c l refl holds)
+
+pub waiting_counts : (m : MachineSpec) (s : State) (entries : List Claims) (claims : List (List LaneClaim)) → Holding m s entries claims → (c l e : ℕ) → e < m.directory → waits_on e (claim_at claims c l) ≡ true → 0 < (get_or entries e no_claims).waiting
+waiting_counts m s entries claims h c l e below waits = subst (λ n. 0 < n) (sym (h.waiting e below)) (count_some (waits_on e) claims c l refl waits)
+
+few : (m : MachineSpec) (s : State) (entries : List Claims) (claims : List (List LaneClaim)) (t : LaneClaim → Bool) → Holding m s entries claims → count_all t claims ≤ 40
+few m s entries claims t h = omega (arith, count_few t claims (λ c within. five c (subst (λ n. c < n) h.cores within)), h.cores, m.cores_in_limits.1)
+  where
+    five : (c : ℕ) → c < m.cores → length (list_at claims c) ≤ 5
+    five c within = omega (arith, h.lanes c within, m.buffer_in_limits.1)
+
+pub few_hold : (m : MachineSpec) (s : State) (entries : List Claims) (claims : List (List LaneClaim)) → Holding m s entries claims → (e : ℕ) (k : Mode) → e < m.directory → counted k (get_or entries e no_claims) ≤ 40
+few_hold m s entries claims h e k below = subst (λ n. n ≤ 40) (sym (h.counts e k below)) (few m s entries claims (holds_entry e k) h)
+
+pub few_wait : (m : MachineSpec) (s : State) (entries : List Claims) (claims : List (List LaneClaim)) → Holding m s entries claims → (e : ℕ) → e < m.directory → (get_or entries e no_claims).waiting ≤ 40
+few_wait m s entries claims h e below = subst (λ n. n ≤ 40) (sym (h.waiting e below)) (few m s entries claims (waits_on e) h)

@@ -1,5 +1,5 @@
 -- The laws of this crate.
-use Rattle.std.specs.Prelude.{true, false, ◌≡◌, ◌↔◌, ℕ, ◌<◌, length, Bool, not, ◌&&◌, IsTrue, List, [], ◌∷◌, ◌++◌, map, filter, find, Some, None, option_map}
+use Rattle.std.specs.Prelude.{true, false, ◌≡◌, ◌↔◌, ℕ, ◌<◌, ◌≤◌, length, slice_index_or, Bool, not, ◌&&◌, IsTrue, List, [], ◌∷◌, ◌++◌, map, filter, find, Some, None, option_map}
 use Rattle.std.specs.List.{list_all, AllPairs}
 use Rattle.pei_types.specs.declared.identifiers.Actor.{Actor}
 use Rattle.pei_types.specs.declared.identifiers.BlockNo.{BlockNo}
@@ -27,9 +27,9 @@ use Rattle.pei_types.specs.Operation.{mode_of}
 use Rattle.pei_types.specs.Program.{Listing, Contents}
 use Rattle.pei_types.specs.Race.{racing_pei}
 use Rattle.pei_types.specs.Schedule.{Run, run_at_start, turn, Policy, LaneClaim, Held, whole_table, scheduled_run, round_robin, serial, by_draws, by_list}
-use Rattle.pei_types.specs.Claims.{Claims}
+use Rattle.pei_types.specs.Claims.{Claims, no_claims}
 use Rattle.history_laws.specs.Entering.{LanesApart}
-use Rattle.history_laws.specs.Holding.{claim_at, Holding}
+use Rattle.history_laws.specs.Holding.{claim_at, counted, holds_entry, waits_on, Holding}
 use Rattle.history_laws.specs.Members.{In}
 use Rattle.history_laws.specs.Tracking.{as_issued, is_past_issue, fence_is_on, IsTracked, Agrees, issues_next, IsTrackable}
 use Rattle.history_laws.specs.Fits.{Fits, AsksForFence, EntersFree}
@@ -118,6 +118,14 @@ pub record WholeRunsAreLegal : Type 0 where
   pub counts : (p : Listing) (m : MachineSpec) (image : Contents) (policy : Policy) (n : ℕ) → ChoosesActors m policy → Holding m (state_after m (scheduled_run (whole_table m image) p m image policy n).journal) (scheduled_run (whole_table m image) p m image policy n).entries (scheduled_run (whole_table m image) p m image policy n).claims
   pub free : (m : MachineSpec) (s : State) (entries : List Claims) (claims : List (List LaneClaim)) (p : PeiLook) → In p s.peis → is_past_issue p ≡ false → claim_at claims p.id.core.0 p.lane.0 ≡ Held (entry_of m p.block) (mode_of p.op) → Holding m s entries claims → entry_is_taken m s p ≡ false
   pub enters : (m : MachineSpec) (s : State) (entries : List Claims) (claims : List (List LaneClaim)) (a : Actor) (kind : EventKind) (l : PeiLook) (at : ℕ) (k : Mode) → Holding m s entries claims → look_in s a.core a.lane ≡ Some l → l.phase ≡ phase.Issued → claim_at claims a.core.0 a.lane.0 ≡ Held at k → EntersFree m s a kind
+
+-- What the counts of a directory's entries tell: where a lane holds an entry, or waits for it, the count is not 0; and none is
+-- above 40, the most lanes and programs that a machine has.
+pub record HoldingTells : Type 0 where
+  pub held : (m : MachineSpec) (s : State) (entries : List Claims) (claims : List (List LaneClaim)) → Holding m s entries claims → (c l e : ℕ) (k : Mode) → holds_entry e k (claim_at claims c l) ≡ true → 0 < counted k (slice_index_or entries e no_claims)
+  pub waits : (m : MachineSpec) (s : State) (entries : List Claims) (claims : List (List LaneClaim)) → Holding m s entries claims → (c l e : ℕ) → e < m.directory → waits_on e (claim_at claims c l) ≡ true → 0 < (slice_index_or entries e no_claims).waiting
+  pub few : (m : MachineSpec) (s : State) (entries : List Claims) (claims : List (List LaneClaim)) → Holding m s entries claims → (e : ℕ) (k : Mode) → e < m.directory → counted k (slice_index_or entries e no_claims) ≤ 40
+  pub few_wait : (m : MachineSpec) (s : State) (entries : List Claims) (claims : List (List LaneClaim)) → Holding m s entries claims → (e : ℕ) → e < m.directory → (slice_index_or entries e no_claims).waiting ≤ 40
 
 -- What is left of a legal journal is the state's: the next event of an actor meets all clauses, and a journal that goes
 -- by rows is legal, where each event meets the guard, recency and seal.

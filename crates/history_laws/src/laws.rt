@@ -1,7 +1,7 @@
 //! The laws, each the contract of a function with an empty body.
 
 ghost use Rattle.history_laws.specs.Fenced.{FencesNeedTheirCore};
-ghost use Rattle.history_laws.specs.Laws.{StatesAgree, AgreementTells, ExclusionTells, SoundGrows, FittingMeets, RunsGoOn, PoliciesChooseActors, JournalsAreSound, NextEventsMeet, WholeRunsAreLegal, RestIsState};
+ghost use Rattle.history_laws.specs.Laws.{StatesAgree, AgreementTells, ExclusionTells, SoundGrows, FittingMeets, RunsGoOn, PoliciesChooseActors, JournalsAreSound, NextEventsMeet, WholeRunsAreLegal, HoldingTells, RestIsState};
 
 /// The state after a journal and the journal's own history name the same PEIs on their way, in the same phases, and the
 /// same issues and fences.
@@ -63,6 +63,12 @@ pub fn next_events_meet()
 /// counts who holds each entry and who waits for it, so that a PEI that holds its entry may enter.
 pub fn whole_runs_are_legal()
     ensures { WholeRunsAreLegal }
+{}
+
+/// The counts of a directory's entries are not 0 where a lane holds the entry, or waits for it, and are at most 40, the
+/// most lanes and programs that a machine has.
+pub fn holding_tells()
+    ensures { HoldingTells }
 {}
 
 /// What the laws of the state have to add, for a journal that goes by rows to be legal, is its guard, the order of

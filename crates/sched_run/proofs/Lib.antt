@@ -1,14 +1,11 @@
-pub mod HostStates
-pub mod Runs
-pub mod Blocks
-pub mod Keeping
-pub mod Turned
-pub mod Lanes
-pub mod Stalling
-pub mod PlainRows
-pub mod PlainTracking
-pub mod EndsTracking
-pub mod CoreTracking
-pub mod Rows
-pub mod Tracked
-pub mod Played
+mod CoreTracking
+mod EndsTracking
+mod Runs
+mod Desks
+mod Played
+mod Stepped
+mod Granting
+mod Started
+mod Turns
+mod Ready
+mod LaneTurns

@@ -1,9 +1,7 @@
-pub mod PlainMachine
+pub mod Claiming
 pub mod Turning
-pub mod Kept
-pub mod Lanes
 pub mod Tracking
 pub mod EndsAfter
 pub mod Choosing
 pub mod Scheduled
-pub mod SixLaws
+pub mod ElevenClauses

@@ -1,44 +1,48 @@
-//! A run on its way: the plain machine, its cores, and how they have ended.
+//! A run on its way: the machine, its directory, its cores, and how they have ended.
 
-ghost use Rattle.std.specs.Prelude.{◌≡◌, ◌<◌, ◌≤◌, ◌+◌, ◌-◌, ◌*◌, ◌^◌, IsTrue, IfOk, length, replicate, None, [], map};
+ghost use Rattle.std.specs.Prelude.{◌≡◌, ◌<◌, ◌≤◌, ◌+◌, ◌-◌, ◌*◌, ◌^◌, ℕ, [], IsTrue, IfOk, length};
 ghost use Rattle.std.specs.Prelude.{is_some};
 ghost use Rattle.std.specs.List.{list_all};
 ghost use Rattle.pei_types.specs.Calls.{is_actor_of};
 ghost use Rattle.sched_run.specs.EndsAfter.{ends_after};
 
-use crate::actors::actor_turn;
-use crate::plain::Plain;
+use crate::actors::{Step, lane_turn, program_turn, take_in};
+use crate::claims::Desk;
 use core_exec::Core;
-use history_laws::laws::{agreement_tells, plain_runs_are_legal, runs_go_on};
-use pei_types::evidence::{calls_fit, core_stops_once, folds_grow};
+use fabric::Fabric;
+use history_laws::laws::{holding_tells, whole_runs_are_legal as runs_hold};
+use machine_laws::laws::whole_runs_are_legal;
+use pei_types::evidence::{core_stops_once, folds_grow};
 use pei_types::{
     Actor, CoreId, EndKind, Event, EventKind, Image, MachineSpec, OutOfMemory, Program,
 };
 use std::alloc::Global;
 
-/// The plain machine with its cores, the ends of the cores that have ended, and the number of stalls so far.
+/// The machine with its directory and its cores, the ends of the cores that have ended, and the number of stalls so far.
 #[derive(Drop)]
 pub(crate) struct Running {
-    pub plain: Plain,
+    pub fabric: Fabric,
+    pub desk: Desk,
     pub cores: [Core; 8],
     pub ends: [Option<EndKind>; 8],
     pub stalls: u64,
 }
 
 impl Running {
-    ghost use Rattle.pei_types.specs.Program.{Listing, Contents};
-    ghost use Rattle.pei_types.specs.Schedule.{Run, run_at_start, turn, plain_table};
-    ghost use Rattle.sched_run.specs.Tracking.{Tracks, is_over};
+    ghost use Rattle.pei_types.specs.Program.{Listing};
+    ghost use Rattle.pei_types.specs.Schedule.{run_at_start, turn, whole_table};
+    ghost use Rattle.sched_run.specs.Tracking.{IsRunning, is_over, run_in};
 
     /// A run at its start.
     pub fn start(alloc: Global, spec: &MachineSpec, image: &Image) -> Result<Running, OutOfMemory>
         requires { length image.now.words ≡ 8 * spec.now.blocks }
-        ensures machine { IfOk result (λ v. v.plain.machine ≡ spec.now) }
-        ensures stalls { IfOk result (λ v. v.stalls ≡ 0) }
-        ensures tracks { IfOk result (λ v. (p : Listing) → Tracks p spec.now image.now (run_at_start spec.now) v) }
+        ensures fabric { IfOk result (λ v. v.fabric ≡ record { machine = spec.now; image = image.now; journal = [] }) }
+        ensures start { IfOk result (λ v. run_in v 0 ≡ run_at_start spec.now) }
+        ensures running { IfOk result (λ v. (p : Listing) → IsRunning p v) }
     {
-        runs_go_on();
-        let plain = Plain::make(alloc, spec, image)?;
+        whole_runs_are_legal();
+        let fabric = Fabric::make(alloc, spec, image)?;
+        let desk = Desk::make(alloc, spec.directory)?;
         let cores = [
             Core::make(image, CoreId(0)),
             Core::make(image, CoreId(1)),
@@ -50,7 +54,8 @@ impl Running {
             Core::make(image, CoreId(7)),
         ];
         Ok(Running {
-            plain,
+            fabric,
+            desk,
             cores,
             ends: [None; 8],
             stalls: 0,
@@ -59,32 +64,85 @@ impl Running {
 
     /// Whether the run is over: each core has ended, or the journal is full.
     pub fn is_over(&self) -> bool
-        ensures over { result ≡ is_over self.now.plain.machine self.now }
-        ensures within { length self.now.plain.journal ≤ self.now.plain.machine.events }
+        ensures over { result ≡ is_over self.now }
+        ensures within { length self.now.fabric.journal ≤ self.now.fabric.machine.events }
     {
-        let cores = self.plain.machine().cores as usize;
-        let is_full = self.plain.journal().spare() == 0;
+        let cores = self.fabric.machine().cores as usize;
+        let is_full = self.fabric.journal().spare() == 0;
         is_full || all_ended(&self.ends[..cores])
     }
 
     /// Takes one turn of an actor of the machine.
     pub fn turn(&mut self, program: &Program, actor: Actor)
-        requires actor { IsTrue (is_actor_of self.old.plain.machine actor) }
-        requires room { length self.old.plain.journal < self.old.plain.machine.events }
+        requires actor { IsTrue (is_actor_of self.old.fabric.machine actor) }
+        requires room { length self.old.fabric.journal < self.old.fabric.machine.events }
         requires stalls { self.old.stalls < 2 ^ 64 - 1 }
-        ensures machine { self.new.plain.machine ≡ self.old.plain.machine }
+        requires running { IsRunning program.now self.old }
+        ensures machine { self.new.fabric.machine ≡ self.old.fabric.machine }
+        ensures image { self.new.fabric.image ≡ self.old.fabric.image }
         ensures stalls { self.new.stalls ≤ self.old.stalls + 1 }
-        ensures tracks { (image : Contents) (r : Run) → Tracks program.now self.old.plain.machine image r self.old
-            → Tracks program.now self.old.plain.machine image (turn (plain_table self.old.plain.machine image) program.now self.old.plain.machine image r actor) self.new }
+        ensures running { IsRunning program.now self.new }
+        ensures turn { (turns : ℕ) → run_in self.new (turns + 1) ≡ turn (whole_table self.old.fabric.machine self.old.fabric.image) program.now self.old.fabric.machine self.old.fabric.image (run_in self.old turns) actor }
+    {
+        if actor.lane.0 == 0 {
+            self.turn_of_program(program, actor);
+        } else {
+            self.turn_of_lane(program, actor);
+        }
+    }
+
+    /// A turn of a core's program.
+    fn turn_of_program(&mut self, program: &Program, actor: Actor)
+        requires program { actor.lane.0 ≡ 0 }
+        requires actor { IsTrue (is_actor_of self.old.fabric.machine actor) }
+        requires room { length self.old.fabric.journal < self.old.fabric.machine.events }
+        requires stalls { self.old.stalls < 2 ^ 64 - 1 }
+        requires running { IsRunning program.now self.old }
+        ensures machine { self.new.fabric.machine ≡ self.old.fabric.machine }
+        ensures image { self.new.fabric.image ≡ self.old.fabric.image }
+        ensures stalls { self.new.stalls ≤ self.old.stalls + 1 }
+        ensures running { IsRunning program.now self.new }
+        ensures turn { (turns : ℕ) → run_in self.new (turns + 1) ≡ turn (whole_table self.old.fabric.machine self.old.fabric.image) program.now self.old.fabric.machine self.old.fabric.image (run_in self.old turns) actor }
     {
         folds_grow();
         core_stops_once();
-        calls_fit();
-        plain_runs_are_legal();
+        whole_runs_are_legal();
         let core = &mut self.cores[actor.core.0 as usize];
-        match actor_turn(&mut self.plain, core, program, actor) {
-            Some(event) => note_end(&mut self.ends, &event),
+        match program_turn(&mut self.fabric, core, program, actor.core) {
+            Some(event) => {
+                self.desk.note(actor, &event.kind);
+                note_end(&mut self.ends, &event);
+            }
             None => self.stalls += 1,
+        }
+    }
+
+    /// A turn of a lane from 1 on.
+    fn turn_of_lane(&mut self, program: &Program, actor: Actor)
+        requires lane { 0 < actor.lane.0 }
+        requires actor { IsTrue (is_actor_of self.old.fabric.machine actor) }
+        requires room { length self.old.fabric.journal < self.old.fabric.machine.events }
+        requires stalls { self.old.stalls < 2 ^ 64 - 1 }
+        requires running { IsRunning program.now self.old }
+        ensures machine { self.new.fabric.machine ≡ self.old.fabric.machine }
+        ensures image { self.new.fabric.image ≡ self.old.fabric.image }
+        ensures stalls { self.new.stalls ≤ self.old.stalls + 1 }
+        ensures running { IsRunning program.now self.new }
+        ensures turn { (turns : ℕ) → run_in self.new (turns + 1) ≡ turn (whole_table self.old.fabric.machine self.old.fabric.image) program.now self.old.fabric.machine self.old.fabric.image (run_in self.old turns) actor }
+    {
+        folds_grow();
+        core_stops_once();
+        whole_runs_are_legal();
+        runs_hold();
+        holding_tells();
+        match lane_turn(&mut self.fabric, &mut self.desk, actor) {
+            Step::Made(event) => {
+                let machine = self.fabric.machine();
+                let core = &mut self.cores[actor.core.0 as usize];
+                take_in(core, program, &machine, &event);
+            }
+            Step::Claimed => {}
+            Step::Waited => self.stalls += 1,
         }
     }
 }

@@ -1,16 +1,17 @@
-//! A run of the plain machine by a schedule of actors.
+//! A run of the whole machine by a schedule of actors.
 
 ghost use Rattle.std.specs.Prelude.{◌≡◌, ◌≤◌, ◌*◌, length, IfOk};
-ghost use Rattle.pei_types.specs.Legal.{FlatLegal};
+ghost use Rattle.pei_types.specs.Legal.{Legal};
 ghost use Rattle.pei_types.specs.Schedule.{run_at_start};
 ghost use Rattle.sched_run.specs.Choosing.{HasActorsOf};
-ghost use Rattle.sched_run.specs.Scheduled.{IsEndOf, HasPlayed, run_of};
-ghost use Rattle.sched_run.specs.SixLaws.{SixLaws};
+ghost use Rattle.sched_run.specs.ElevenClauses.{ElevenClauses};
+ghost use Rattle.sched_run.specs.Scheduled.{IsAfter, IsEndOf, run_of};
+ghost use Rattle.sched_run.specs.Tracking.{IsRunning, run_in};
 
-use crate::plain::Plain;
 use crate::policies::Policy;
 use crate::running::Running;
-use history_laws::laws::plain_runs_are_legal;
+use fabric::Fabric;
+use history_laws::laws::policies_choose_actors;
 use pei_types::{EndKind, Image, MachineSpec, OutOfMemory, Program};
 use std::alloc::Global;
 
@@ -18,12 +19,12 @@ use std::alloc::Global;
 /// did; and the number of turns that were made.
 #[derive(Drop)]
 pub struct SchedEnd {
-    pub fabric: Plain,
+    pub fabric: Fabric,
     pub cores: [Option<EndKind>; 8],
     pub turns: u64,
 }
 
-/// Runs a program on the plain machine, from an image of its memory, for at most `turns` turns.
+/// Runs a program on the whole machine, from an image of its memory, for at most `turns` turns.
 ///
 /// The run stops earlier where each core has ended, the journal is full, or the list of the policy's actors is at its
 /// end. The conditions are that the image has a word for each word of memory, and that a list has only actors of this
@@ -39,14 +40,14 @@ pub fn run_schedule(
     requires image { length image.now.words ≡ 8 * spec.now.blocks }
     requires actors { HasActorsOf spec.now policy.now }
     ensures run { IfOk result (λ v. IsEndOf spec.now image.now (run_of program.now spec.now image.now policy.now turns) v) }
-    ensures legal { IfOk result (λ v. FlatLegal program.now spec.now image.now v.fabric.journal) }
-    ensures laws { IfOk result (λ v. SixLaws program.now spec.now image.now v.fabric.journal) }
+    ensures legal { IfOk result (λ v. Legal program.now spec.now image.now v.fabric.journal) }
+    ensures laws { IfOk result (λ v. ElevenClauses program.now spec.now image.now v.fabric.journal) }
 {
-    plain_runs_are_legal();
+    machine_laws::laws::whole_runs_are_legal();
     let mut running = Running::start(alloc, spec, image)?;
     let made = play(&mut running, program, policy, turns);
     Ok(SchedEnd {
-        fabric: running.plain,
+        fabric: running.fabric,
         cores: running.ends,
         turns: made,
     })
@@ -54,12 +55,13 @@ pub fn run_schedule(
 
 /// Takes at most so many turns, and answers how many it took.
 fn play(running: &mut Running, program: &Program, policy: &Policy, turns: u64) -> u64
-    requires actors { HasActorsOf running.old.plain.machine policy.now }
-    requires stalls { running.old.stalls ≡ 0 }
-    ensures { HasPlayed program.now running.old.plain.machine policy.now turns result running.old running.new }
+    requires actors { HasActorsOf running.old.fabric.machine policy.now }
+    requires start { run_in running.old 0 ≡ run_at_start running.old.fabric.machine }
+    requires running { IsRunning program.now running.old }
+    ensures { IsAfter program.now policy.now turns result running.old running.new }
 {
-    plain_runs_are_legal();
-    let machine = running.plain.machine();
+    policies_choose_actors();
+    let machine = running.fabric.machine();
     let mut draws = policy.draws();
     for made in 0..turns {
         if running.is_over() {
