@@ -1,12 +1,13 @@
 -- What lists of words ask for.
-use Rattle.std.proofs.Common.{◌≡◌, ℕ, ◌<◌, ◌≤◌, Bool, true, false, List, [], ◌∷◌, length, get_or, Option, Some, None, option_map, option_and_then, if◌then◌else◌, codes, refl, sym, subst, arith}
+use Rattle.std.proofs.Common.{◌≡◌, ℕ, ◌<◌, ◌≤◌, Bool, true, false, List, [], ◌∷◌, length, get_or, drop, Option, Some, None, option_map, option_and_then, if◌then◌else◌, codes, refl, sym, subst, arith}
 use Rattle.std.specs.Str.{bytes_eq}
 use Rattle.std.proofs.lemmas.Slice.Eq.{bytes_eq-Decides}
 use Rattle.sched_run.specs.declared.policies.Policy.{Policy}
-use Rattle.pei_cli.specs.Asking.{machine_as, runs_as}
-use Rattle.pei_cli.specs.Commands.{MachineWord, Run, ScheduleWord, Sched, Output, Report, machine_word, schedule_word, turns_word, sched_words, asm_words, run_words, check_words, gen_words, output_words}
+use Rattle.pei_cli.specs.Asking.{machine_as, output_as, runs_as}
+use Rattle.pei_cli.specs.Commands.{MachineWord, Run, ScheduleWord, Sched, Output, machine_word, schedule_word, turns_word, sched_words, asm_words, run_words, check_words, gen_words, output_words}
 use Rattle.pei_cli.specs.Jobs.{asked_by, asked_of, policy_of_word}
 use Rattle.pei_cli.specs.declared.words.Machine.{Machine}
+use Rattle.pei_cli.specs.declared.words.Output.{Output as Written}
 
 -- ---- the other verbs ask for nothing that is built
 
@@ -51,21 +52,22 @@ other_verb verb rest not_asm not_sched not_gen =
 
 -- ---- a scheduled run
 
--- the run that four words behind `sched` ask for
-pub asked_run : (words : List (List ℕ)) (machine seed count : List ℕ) (k : Machine) (policy : Policy) (turns : ℕ) → 4 ≤ length words → length words < 5 → machine ≡ get_or words 1 machine → seed ≡ get_or words 2 seed → count ≡ get_or words 3 count → option_map policy_of_word (schedule_word seed) ≡ Some policy → turns_word count ≡ Some turns → machine_word machine ≡ machine_as machine k → asked_by (sched_words words) ≡ Some (runs_as (get_or words 0 []) (get_or words 1 []) (record { machine = k; policy = policy; turns = turns }))
-asked_run [] machine seed count k policy turns some few at_1 at_2 at_3 seeds counts named = absurd (omega (arith, some))
-asked_run (a ∷ []) machine seed count k policy turns some few at_1 at_2 at_3 seeds counts named = absurd (omega (arith, some))
-asked_run (a ∷ b ∷ []) machine seed count k policy turns some few at_1 at_2 at_3 seeds counts named = absurd (omega (arith, some))
-asked_run (a ∷ b ∷ c ∷ []) machine seed count k policy turns some few at_1 at_2 at_3 seeds counts named = absurd (omega (arith, some))
-asked_run (a ∷ b ∷ c ∷ d ∷ e ∷ more) machine seed count k policy turns some few at_1 at_2 at_3 seeds counts named = absurd (omega (arith, few))
-asked_run (a ∷ b ∷ c ∷ d ∷ []) machine seed count k policy turns some few at_1 at_2 at_3 seeds counts named =
-    by (schedule_word c) (turns_word d) (machine_word b)
+-- the run that the words behind `sched` ask for
+pub asked_run : (words : List (List ℕ)) (machine seed count : List ℕ) (rest : List (List ℕ)) (k : Machine) (policy : Policy) (turns : ℕ) (output : Written) → 4 ≤ length words → machine ≡ get_or words 1 machine → seed ≡ get_or words 2 seed → count ≡ get_or words 3 count → rest ≡ drop 4 words → option_map policy_of_word (schedule_word seed) ≡ Some policy → turns_word count ≡ Some turns → machine_word machine ≡ machine_as machine k → output_words rest ≡ Some (output_as output) → asked_by (sched_words words) ≡ Some (runs_as (get_or words 0 []) (get_or words 1 []) (record { machine = k; policy = policy; turns = turns; output = output }))
+asked_run [] machine seed count rest k policy turns output some at_1 at_2 at_3 behind seeds counts named written = absurd (omega (arith, some))
+asked_run (a ∷ []) machine seed count rest k policy turns output some at_1 at_2 at_3 behind seeds counts named written = absurd (omega (arith, some))
+asked_run (a ∷ b ∷ []) machine seed count rest k policy turns output some at_1 at_2 at_3 behind seeds counts named written = absurd (omega (arith, some))
+asked_run (a ∷ b ∷ c ∷ []) machine seed count rest k policy turns output some at_1 at_2 at_3 behind seeds counts named written = absurd (omega (arith, some))
+asked_run (a ∷ b ∷ c ∷ d ∷ more) machine seed count rest k policy turns output some at_1 at_2 at_3 behind seeds counts named written =
+    by (schedule_word c) (turns_word d) (machine_word b) (output_words more)
     (subst (λ (w : List ℕ). option_map policy_of_word (schedule_word w) ≡ Some policy) at_2 seeds)
     (subst (λ (w : List ℕ). turns_word w ≡ Some turns) at_3 counts)
     (subst (λ (w : List ℕ). machine_word w ≡ machine_as w k) at_1 named)
+    (subst (λ (ws : List (List ℕ)). output_words ws ≡ Some (output_as output)) behind written)
   where
-    by : (s : Option ScheduleWord) (n : Option ℕ) (m : MachineWord) → option_map policy_of_word s ≡ Some policy → n ≡ Some turns → m ≡ machine_as b k
-        → asked_by (option_and_then (λ x. option_and_then (λ y. option_map (Sched a m x y) (Some Report)) n) s) ≡ Some (runs_as a b (record { machine = k; policy = policy; turns = turns }))
-    by None n m seeds counts named = absurd (cc seeds)
-    by (Some s) None m seeds counts named = absurd (cc counts)
-    by (Some s) (Some n) m seeds counts named = cc
+    by : (s : Option ScheduleWord) (n : Option ℕ) (m : MachineWord) (o : Option Output) → option_map policy_of_word s ≡ Some policy → n ≡ Some turns → m ≡ machine_as b k → o ≡ Some (output_as output)
+        → asked_by (option_and_then (λ x. option_and_then (λ y. option_map (Sched a m x y) o) n) s) ≡ Some (runs_as a b (record { machine = k; policy = policy; turns = turns; output = output }))
+    by None n m o seeds counts named written = absurd (cc seeds)
+    by (Some s) None m o seeds counts named written = absurd (cc counts)
+    by (Some s) (Some n) m None seeds counts named written = absurd (cc written)
+    by (Some s) (Some n) m (Some w) seeds counts named written = cc

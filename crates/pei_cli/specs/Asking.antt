@@ -3,12 +3,14 @@ use Rattle.std.specs.Prelude.{◌≡◌, ⊤, ℕ, ◌<◌, List, [], length, ge
 use Rattle.pei_types.specs.Limits.{IsWithin}
 use Rattle.pei_types.specs.declared.machines.MachineSpec.{MachineSpec}
 use Rattle.sched_run.specs.Choosing.{HasActorsOf}
-use Rattle.pei_cli.specs.Commands.{MachineWord, BuiltIn, FromFile}
+use Rattle.pei_cli.specs.Commands.{MachineWord, BuiltIn, FromFile, Output, Report, Trace}
 use Rattle.pei_cli.specs.Jobs.{Job, Asked, Runs, Prints, Generates, asked_of}
 use Rattle.pei_cli.specs.declared.words.Asked.{Asked as Parsed}
 use Rattle.pei_cli.specs.declared.words.Asked.TheVariants as parsed
 use Rattle.pei_cli.specs.declared.words.Machine.{Machine}
 use Rattle.pei_cli.specs.declared.words.Machine.TheVariants as machine
+use Rattle.pei_cli.specs.declared.words.Output.{Output as Written}
+use Rattle.pei_cli.specs.declared.words.Output.TheVariants as output
 use Rattle.pei_cli.specs.declared.words.Run.{Run}
 
 -- the machine of a word: a built-in one, or the file whose name the word is
@@ -21,9 +23,14 @@ abbrev pub HasBuiltInCores : Machine → Type 0
 HasBuiltInCores (machine.BuiltIn cores) = IsWithin 1 8 cores
 HasBuiltInCores machine.File = ⊤
 
+-- what a run writes
+abbrev pub output_as : Written → Output
+output_as output.Report = Report
+output_as output.Trace = Trace
+
 -- a run with the names of its program and, where it is a file, of its machine
 abbrev pub job_of : List ℕ → List ℕ → Run → Job
-job_of program name j = record { program = program; machine = machine_as name j.machine; policy = j.policy; turns = j.turns }
+job_of program name j = record { program = program; machine = machine_as name j.machine; policy = j.policy; turns = j.turns; output = output_as j.output }
 
 abbrev pub runs_as : List ℕ → List ℕ → Run → Asked
 runs_as program name j = Runs (job_of program name j)

@@ -4,15 +4,16 @@ use Rattle.sched_run.specs.declared.policies.Policy.{Policy}
 use Rattle.sched_run.specs.declared.policies.Policy.TheVariants as policy
 use Rattle.pei_io.specs.declared.files.Which.{Which}
 use Rattle.pei_io.specs.declared.files.Which.TheVariants as which
-use Rattle.pei_cli.specs.Commands.{Command, Asm, Sched, Gen, MachineWord, ScheduleWord, InTurn, Serial, Seeded, Report, file_of_machine, is_run, plain_command_of}
+use Rattle.pei_cli.specs.Commands.{Command, Asm, Sched, Gen, MachineWord, ScheduleWord, InTurn, Serial, Seeded, Output, file_of_machine, is_run, plain_command_of}
 
--- A scheduled run with its report: the name of the program's file, the machine, who takes the turns, and how many at
--- most.
+-- A scheduled run: the name of the program's file, the machine, who takes the turns, how many at most, and what is written
+-- of it.
 pub record Job : Type 0 where
   pub program : List ℕ
   pub machine : MachineWord
   pub policy : Policy
   pub turns : ℕ
+  pub output : Output
 
 abbrev pub policy_of_word : ScheduleWord → Policy
 policy_of_word InTurn = policy.RoundRobin
@@ -25,11 +26,11 @@ pub data Asked : Type 0 where
   Prints : (file : List ℕ) → Asked
   Generates : (n : ℕ) → Asked
 
--- of the commands, the canonical text of a program, a scheduled run with its report, and the generated program are built
+-- of the commands, the canonical text of a program, a scheduled run, and the generated program are built
 abbrev pub built : Command → Option Asked
 built (Asm program) = Some (Prints program)
-built (Sched program machine schedule turns Report) =
-    Some (Runs (record { program = program; machine = machine; policy = policy_of_word schedule; turns = turns }))
+built (Sched program machine schedule turns output) =
+    Some (Runs (record { program = program; machine = machine; policy = policy_of_word schedule; turns = turns; output = output }))
 built (Gen n) = Some (Generates n)
 built _ = None
 

@@ -1,11 +1,13 @@
 -- What a command comes to.
 use Rattle.std.specs.Prelude.{◌≡◌, ◌≢◌, ◌⊎◌, ℕ, ◌<◌, ◌≤◌, List, length, take, Some, None, IfSome, IsSomeAnd, Result, Ok, Err}
+use Rattle.pei_types.specs.declared.events.Event.{Event}
 use Rattle.pei_types.specs.declared.machines.MachineSpec.{MachineSpec}
 use Rattle.pei_types.specs.Ends.{ends_of, status_of}
 use Rattle.pei_types.specs.Image.{IsImageOf, load_refusal}
+use Rattle.pei_types.specs.Legal.{Legal}
 use Rattle.pei_types.specs.Program.{Listing, Contents}
 use Rattle.pei_types.specs.Schedule.{Run}
-use Rattle.pei_types.specs.Texts.{report_text}
+use Rattle.pei_types.specs.Texts.{report_text, trace_text}
 use Rattle.pei_io.specs.Outside.{Rose, Added}
 use Rattle.pei_io.specs.declared.files.Which.{Which}
 use Rattle.pei_io.specs.declared.files.Which.TheVariants as which
@@ -19,9 +21,9 @@ use Rattle.pei_loader.specs.declared.faults.LoadFault.TheVariants as load
 use Rattle.machine_file.specs.Faults.{refusal_of}
 use Rattle.machine_file.specs.Machine.{DescribesOf, IsBuiltIn, file_fault, table_of}
 use Rattle.sched_run.specs.Scheduled.{run_of}
-use Rattle.sched_run.specs.SixLaws.{SixLaws}
+use Rattle.sched_run.specs.ElevenClauses.{ElevenClauses}
 use Rattle.workload_gen.specs.Generated.{generated}
-use Rattle.pei_cli.specs.Commands.{MachineWord, BuiltIn, FromFile}
+use Rattle.pei_cli.specs.Commands.{MachineWord, BuiltIn, FromFile, Output, Report, Trace}
 use Rattle.pei_cli.specs.Jobs.{Job, Asked, Runs, Prints, Generates}
 use Rattle.pei_cli.specs.Uses.{FileUse, SinkUse, IsUnopened}
 use Rattle.pei_cli.specs.declared.ends.PlainEnd.{PlainEnd}
@@ -92,22 +94,27 @@ IsAnswerOf m r (ends.Sched status journal cores turns) =
     (status ≡ status_of m r.journal) × (journal.events ≡ r.journal) × (cores ≡ ends_of r.journal) × (turns ≡ r.turns)
 IsAnswerOf m r (ends.Text status) = ⊥
 
--- The report of the run was written: the whole, or a front of it.
-abbrev pub Reports : Listing → MachineSpec → Contents → Run → SinkUse → Type 0
-Reports p m image r sink = Added (report_text p m image r.journal) sink.before sink.now
+-- what is written of a run: its report, or the trace of its journal
+abbrev pub output_text : Output → Listing → MachineSpec → Contents → List Event → List ℕ
+output_text Report p m image journal = report_text p m image journal
+output_text Trace p m image journal = trace_text journal
 
-abbrev pub ReportsFront : Listing → MachineSpec → Contents → Run → SinkUse → Type 0
-ReportsFront p m image r sink =
-    (n : ℕ) × (n ≤ length (report_text p m image r.journal)) × Added (take n (report_text p m image r.journal)) sink.before sink.now
+-- This text was written: the whole, or a front of it.
+abbrev pub WritesText : List ℕ → SinkUse → Type 0
+WritesText text sink = Added text sink.before sink.now
 
--- The run of a program on a machine, which keeps the six laws, and its report, or why there is none. Before a fault other
--- than that of writing, nothing was written.
+abbrev pub WritesFront : List ℕ → SinkUse → Type 0
+WritesFront text sink = (n : ℕ) × (n ≤ length text) × Added (take n text) sink.before sink.now
+
+-- The run of a program on a machine, whose journal is legal and meets each of the eleven clauses, and what is written of
+-- it, or why there is none. Before a fault other than that of writing, nothing was written.
 abbrev pub RunsJob : Job → Listing → MachineSpec → SinkUse → Result PlainEnd Fault → Type 0
 RunsJob job p m sink (Ok end) =
     (image : Contents) × Begins p m image × IsAnswerOf m (run_of_job job p m image) end
-    × SixLaws p m image (run_of_job job p m image).journal × Reports p m image (run_of_job job p m image) sink
+    × Legal p m image (run_of_job job p m image).journal × ElevenClauses p m image (run_of_job job p m image).journal
+    × WritesText (output_text job.output p m image (run_of_job job p m image).journal) sink
 RunsJob job p m sink (Err fault.WriteFault) =
-    (image : Contents) × Begins p m image × ReportsFront p m image (run_of_job job p m image) sink × Rose sink.faults sink.faults_now
+    (image : Contents) × Begins p m image × WritesFront (output_text job.output p m image (run_of_job job p m image).journal) sink × Rose sink.faults sink.faults_now
 RunsJob job p m sink (Err (fault.LoadBad f)) = IsFirstLoadFault p m f × (sink.now ≡ sink.before)
 RunsJob job p m sink (Err fault.OutOfMemory) = sink.now ≡ sink.before
 RunsJob job p m sink (Err _) = ⊥
@@ -117,9 +124,9 @@ RunsJob job p m sink (Err _) = ⊥
 -- The canonical text of the program was written, or a front of it. Before a fault other than that of writing, nothing was
 -- written.
 abbrev pub PrintsProgram : Listing → SinkUse → Result PlainEnd Fault → Type 0
-PrintsProgram p sink (Ok (ends.Text status)) = (status ≡ 0) × Added (canonical p) sink.before sink.now
+PrintsProgram p sink (Ok (ends.Text status)) = (status ≡ 0) × WritesText (canonical p) sink
 PrintsProgram p sink (Err fault.WriteFault) =
-    ((k : ℕ) × (k ≤ length (canonical p)) × Added (take k (canonical p)) sink.before sink.now) × Rose sink.faults sink.faults_now
+    WritesFront (canonical p) sink × Rose sink.faults sink.faults_now
 PrintsProgram p sink (Err fault.OutOfMemory) = sink.now ≡ sink.before
 PrintsProgram p sink _ = ⊥
 
@@ -127,9 +134,9 @@ PrintsProgram p sink _ = ⊥
 
 -- The generated program of a number was written, or a front of it.
 abbrev pub WritesGenerated : ℕ → SinkUse → Result PlainEnd Fault → Type 0
-WritesGenerated n sink (Ok (ends.Text status)) = (status ≡ 0) × Added (generated n) sink.before sink.now
+WritesGenerated n sink (Ok (ends.Text status)) = (status ≡ 0) × WritesText (generated n) sink
 WritesGenerated n sink (Err fault.WriteFault) =
-    ((k : ℕ) × (k ≤ length (generated n)) × Added (take k (generated n)) sink.before sink.now) × Rose sink.faults sink.faults_now
+    WritesFront (generated n) sink × Rose sink.faults sink.faults_now
 WritesGenerated n sink _ = ⊥
 
 -- ---- the whole command

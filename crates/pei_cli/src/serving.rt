@@ -15,9 +15,9 @@ use pei_io::{Files, Sink, Text};
 use std::alloc::Global;
 
 /// Serves the words `sched PROGRAM MACHINE SEED TURNS`: it reads the program, reads the machine where that is a file,
-/// runs the program by the schedule on the plain machine of these sizes, and writes the report to the sink. It serves
-/// `asm PROGRAM`: it reads the program and writes its canonical text. And it serves `gen N`: it writes the generated
-/// program of that number.
+/// runs the program by the schedule on the whole machine of these sizes, and writes the report to the sink; with the word
+/// `trace` behind them it writes the trace of the run's journal instead. It serves `asm PROGRAM`: it reads the program and
+/// writes its canonical text. And it serves `gen N`: it writes the generated program of that number.
 ///
 /// PROGRAM is a file's name. MACHINE is `-1` to `-8`, the built-in machine of that many cores, and any other word is the
 /// name of a machine's file. SEED is `rr`, `serial` or a decimal number below 2^64, and TURNS a decimal number of at most

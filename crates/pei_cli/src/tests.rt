@@ -18,15 +18,32 @@ const RAISE: &[u8] =
 /// One core puts 7 out.
 const SEVEN: &[u8] = b".entry 0, s\ns: li r1, 7\nout r1\nhalt\n";
 
-/// Each core raises the same word three times, and puts it out.
+/// Each core raises the same word three times.
 const RAISE_BY_ALL: &[u8] =
-    b".entry *, s\ns: li r1, 4096\npinc r1, 0\npinc r1, 0\npinc r1, 0\npfence\nld r2, r1, 0\nout r2\nhalt\n";
+    b".entry *, s\n.show 4096, 1\ns: li r1, 4096\npinc r1, 0\npinc r1, 0\npinc r1, 0\npfence\nhalt\n";
+
+/// One core raises a word three times: twice in memory, and then at the host.
+const RAISE_THRICE: &[u8] =
+    b".entry 0, s\n.show 4096, 1\n.stats\ns: li r1, 4096\npinc r1, 0\npinc r1, 0\npinc r1, 0\npfence\nhalt\n";
+
+/// What `RAISE_THRICE` writes.
+const RAISED_THRICE: &[u8] =
+    b"core 0 halt\nmem 4096 3\nstat events 23\nstat loads 0\nstat stores 0\nstat issues 3\n\
+stat host 1\nstat memory 2\nstat reads 1\nstat seals 2\nstat acts 3\nstat fences 1\nstat races 0\nstat inv 0\n\
+stat down 0\nstat evict1 0\nstat clean 0\nstat evict2 0\nstat fill 1\nstat grants 0\nstat grante 0\nstat grantm 1\n\
+status 0\n";
 
 /// One core loads a word that an operation of its own has yet to raise.
 const RACING: &[u8] = b".entry 0, s\ns: li r1, 4096\npinc r1, 0\nld r2, r1, 0\nout r2\nhalt\n";
 
 /// What `RAISE` writes.
 const RAISED: &[u8] = b"out 0 1\ncore 0 halt\nstatus 0\n";
+
+/// The trace of `RAISE`, by whatever schedule.
+const RAISE_TRACE: &[u8] =
+    b"peisim-trace 1 mesi\n0.0 issue 0 1 pinc 4096 0 0 0 0\n0.0 fbegin\n0.1 enter 0\n\
+0.1 place 0 memory\n0.1 seal 0 0\n0.1 act 0 0 0 0\n0.1 leave 0\n0.0 fend\n0.0 fill 64\n0.0 grante 64\n\
+0.0 load 4096 1\n0.0 out 1\n0.0 end halt\n";
 
 /// Each core raises the same word a hundred times.
 const RAISE_HUNDRED: &[u8] =
@@ -99,170 +116,183 @@ fn padded(alloc: Global, bytes: &[u8], len: usize) -> Result<Vec<u8>, OutOfMemor
     if whole { Ok(text) } else { Err(OutOfMemory) }
 }
 
-/// A run: its command, the program and the machine, the bytes that a read or a write moves at most, what it writes, its
-/// status, and the numbers of its events and turns. The turns to a full journal were not worked out, and stand as 0.
-type Row = (
-    &'static str,
-    &'static [u8],
-    &'static [u8],
-    u32,
-    &'static [u8],
-    u8,
-    u32,
-    u64,
-);
+/// A run.
+struct Row {
+    command: &'static str,
+    program: &'static [u8],
+    machine: &'static [u8],
+    /// The bytes that a read or a write moves at most.
+    most: u32,
+    /// What it writes.
+    want: &'static [u8],
+    status: u8,
+    /// The numbers of its events and of its turns, where they were worked out.
+    events: Option<u32>,
+    turns: Option<u64>,
+}
 
-/// With one entry of its operand buffer a core has two actors, so each of its turns but the first comes two turns behind
-/// the one before. With two entries of the directory, blocks 64 and 67 share one, and the second core's PEI enters behind
-/// the first one's end.
-const REPORTED: [Row; 15] = [
-    ("sched p -1 rr 1000", RAISE, b"", 5000, RAISED, 0, 11, 41),
-    ("sched p -1 rr 1000", RAISE, b"", 1, RAISED, 0, 11, 41),
-    (
-        "sched p -1 rr 40",
-        RAISE,
-        b"",
-        5000,
-        b"out 0 1\ncore 0 unfinished\nstatus 7\n",
-        7,
-        10,
-        40,
-    ),
-    (
-        "sched p -1 rr 0",
-        RAISE,
-        b"",
-        5000,
-        b"core 0 unfinished\nstatus 7\n",
-        7,
-        0,
-        0,
-    ),
-    (
-        "sched p -1 rr 1000",
-        SEVEN,
-        b"",
-        5000,
-        b"out 0 7\ncore 0 halt\nstatus 0\n",
-        0,
-        2,
-        6,
-    ),
-    (
-        "sched p -2 rr 10000",
-        RAISE_BY_ALL,
-        b"",
-        5000,
-        b"out 0 6\ncore 0 halt\nout 1 6\ncore 1 halt\nstatus 0\n",
-        0,
-        46,
-        286,
-    ),
-    (
-        "sched p -1 rr 1000",
-        RACING,
-        b"",
-        5000,
-        b"core 0 race 2 64 0 0\nstatus 5\n",
-        5,
-        8,
-        26,
-    ),
-    (
-        "sched p -1 serial 1000",
-        RACING,
-        b"",
-        5000,
-        b"core 0 race 2 64 0 0\nstatus 5\n",
-        5,
-        8,
-        13,
-    ),
-    (
-        "sched p m rr 100000",
-        RAISE_HUNDRED,
-        b"cores = 1\nblocks = 1024\nevents = 64\n",
-        5000,
-        b"core 0 unfinished\nstatus 6\n",
-        6,
-        64,
-        0,
-    ),
-    (
-        "sched p m rr 1000",
-        RAISE,
-        b"cores = 1\nblocks = 1024\nbuffer = 1\n",
-        5000,
-        RAISED,
-        0,
-        11,
-        17,
-    ),
-    (
-        "sched p -9 rr 1000",
-        RAISE,
-        b"cores = 1\nblocks = 1024\nbuffer = 1\n",
-        1,
-        RAISED,
-        0,
-        11,
-        17,
-    ),
-    (
-        "sched p m rr 1000",
-        RAISE,
-        b"cores = 1\nblocks = 64\n",
-        5000,
-        b"core 0 trap 1 range\nstatus 5\n",
-        5,
-        1,
-        1,
-    ),
-    (
-        "sched p m rr 1000",
-        SEVEN,
-        b"cores = 1\nblocks = 16\nfuel = 2\n",
-        5000,
-        b"out 0 7\ncore 0 fuel\nstatus 5\n",
-        5,
-        2,
-        6,
-    ),
-    (
-        "sched p m rr 1000",
-        RAISE_APART,
-        b"cores = 2\nblocks = 128\n",
-        5000,
-        RAISED_APART,
-        0,
-        14,
-        56,
-    ),
-    (
-        "sched p m rr 1000",
-        RAISE_APART,
-        b"cores = 2\nblocks = 128\ndirectory = 2\n",
-        5000,
-        RAISED_APART,
-        0,
-        14,
-        96,
-    ),
+/// One row, with a read and a write that move all.
+const ROW: Row = Row {
+    command: "sched p -1 rr 1000",
+    program: RAISE,
+    machine: b"",
+    most: 5000,
+    want: RAISED,
+    status: 0,
+    events: Some(13),
+    turns: Some(61),
+};
+
+/// With four entries of its operand buffer a core has five actors, so each of its turns but the first comes five turns
+/// behind the one before; with one entry, two turns. With two entries of the directory, blocks 64 and 67 share one, and the
+/// second core's PEI enters behind the first one's end.
+const REPORTED: [Row; 17] = [
+    ROW,
+    Row { most: 1, ..ROW },
+    Row {
+        command: "sched p -1 serial 1000",
+        turns: Some(21),
+        ..ROW
+    },
+    Row {
+        command: "sched p -1 rr 1000 trace",
+        want: RAISE_TRACE,
+        ..ROW
+    },
+    Row {
+        command: "sched p -1 serial 1000 trace",
+        want: RAISE_TRACE,
+        most: 1,
+        turns: Some(21),
+        ..ROW
+    },
+    Row {
+        command: "sched p -1 rr 60",
+        want: b"out 0 1\ncore 0 unfinished\nstatus 7\n",
+        status: 7,
+        events: Some(12),
+        turns: Some(60),
+        ..ROW
+    },
+    Row {
+        command: "sched p -1 rr 0",
+        want: b"core 0 unfinished\nstatus 7\n",
+        status: 7,
+        events: Some(0),
+        turns: Some(0),
+        ..ROW
+    },
+    Row {
+        program: SEVEN,
+        want: b"out 0 7\ncore 0 halt\nstatus 0\n",
+        events: Some(2),
+        turns: Some(6),
+        ..ROW
+    },
+    Row {
+        command: "sched p -2 rr 10000",
+        program: RAISE_BY_ALL,
+        want: b"core 0 halt\ncore 1 halt\nmem 4096 6\nstatus 0\n",
+        events: None,
+        turns: None,
+        ..ROW
+    },
+    Row {
+        command: "sched p -1 serial 1000",
+        program: RAISE_THRICE,
+        want: RAISED_THRICE,
+        events: Some(23),
+        turns: Some(37),
+        ..ROW
+    },
+    Row {
+        program: RACING,
+        want: b"core 0 race 2 64 0 0\nstatus 5\n",
+        status: 5,
+        events: Some(8),
+        turns: Some(36),
+        ..ROW
+    },
+    Row {
+        command: "sched p -1 serial 1000",
+        program: RACING,
+        want: b"core 0 race 2 64 0 0\nstatus 5\n",
+        status: 5,
+        events: Some(8),
+        turns: Some(16),
+        ..ROW
+    },
+    Row {
+        command: "sched p m rr 100000",
+        program: RAISE_HUNDRED,
+        machine: b"cores = 1\nblocks = 1024\nevents = 64\n",
+        want: b"core 0 unfinished\nstatus 6\n",
+        status: 6,
+        events: Some(64),
+        turns: None,
+        ..ROW
+    },
+    Row {
+        command: "sched p -9 rr 1000",
+        machine: b"cores = 1\nblocks = 1024\nbuffer = 1\n",
+        most: 1,
+        turns: Some(25),
+        ..ROW
+    },
+    Row {
+        command: "sched p m rr 1000",
+        machine: b"cores = 1\nblocks = 64\n",
+        want: b"core 0 trap 1 range\nstatus 5\n",
+        status: 5,
+        events: Some(1),
+        turns: Some(1),
+        ..ROW
+    },
+    Row {
+        command: "sched p m rr 1000",
+        program: RAISE_APART,
+        machine: b"cores = 2\nblocks = 128\n",
+        want: RAISED_APART,
+        events: Some(14),
+        turns: Some(76),
+        ..ROW
+    },
+    Row {
+        command: "sched p m rr 1000",
+        program: RAISE_APART,
+        machine: b"cores = 2\nblocks = 128\ndirectory = 2\n",
+        want: RAISED_APART,
+        events: Some(14),
+        turns: Some(136),
+        ..ROW
+    },
 ];
 
 #[test]
 fn runs_are_reported(rt: HostRuntime) -> Result<(), Fail> {
-    for (command, program, machine, most, want, want_status, events, want_turns) in REPORTED {
-        assert!(rt; most > 0);
-        let served = serve(rt.alloc(), command, program, machine, most, 0, 0)?;
-        assert_eq!(rt; served.sink.bytes(), want, "{command}");
+    for row in &REPORTED {
+        let command = row.command;
+        assert!(rt; row.most > 0);
+        let served = serve(
+            rt.alloc(),
+            command,
+            row.program,
+            row.machine,
+            row.most,
+            0,
+            0,
+        )?;
+        assert_eq!(rt; served.sink.bytes(), row.want, "{command}");
         let Ok(PlainEnd::Sched { journal, turns, .. }) = &served.result else {
             assert!(rt; false, "{command}");
             continue;
         };
-        assert_eq!(rt; status(&served), want_status, "{command}");
-        assert_eq!(rt; journal.len(), events, "{command}");
-        assert!(rt; *turns == want_turns || want_status == 6, "{command}");
+        assert_eq!(rt; status(&served), row.status, "{command}");
+        assert!(rt;
+            row.events.is_none_or(|events| events == journal.len()),
+            "{command}"
+        );
+        assert!(rt; row.turns.is_none_or(|most| most == *turns), "{command}");
     }
     Ok(())
 }
@@ -332,7 +362,7 @@ const REFUSED: [(&str, &str, u8, &str); 28] = [
     ("", "", 2, USAGE),
     ("sched p -1 rr", "", 2, USAGE),
     ("sched p -1 rr 1000 more", "", 2, USAGE),
-    ("sched p -1 rr 1000 trace", "", 2, USAGE),
+    ("sched p -1 rr 1000 report", "", 2, USAGE),
     ("run p -1", "", 2, USAGE),
     ("run p -1 rr 1000", "", 2, USAGE),
     ("asm", "", 2, USAGE),
@@ -634,9 +664,9 @@ const RUNS: [(&str, &str, u8); 10] = [
         ".entry 0, s\n.data 4096, 41, -1\n.show 4096, 2\n.sum 4096, 3\n.show 8, 0\n.stats\ns: li r1, 4096\npinc r1, 0\n\
 pfence\nld r2, r1, 0\nout r2\nhalt",
         "out 0 42\ncore 0 halt\nmem 4096 42\nmem 4104 18446744073709551615\nsum 4096 3 41\n\
-stat events 11\nstat loads 1\nstat stores 0\nstat issues 1\nstat host 1\nstat memory 0\nstat reads 1\n\
-stat seals 0\nstat acts 1\nstat fences 1\nstat races 0\nstat inv 0\nstat down 0\nstat evict1 0\nstat clean 0\n\
-stat evict2 0\nstat fill 0\nstat grants 0\nstat grante 0\nstat grantm 0\nstatus 0\n",
+stat events 13\nstat loads 1\nstat stores 0\nstat issues 1\nstat host 0\nstat memory 1\nstat reads 0\n\
+stat seals 1\nstat acts 1\nstat fences 1\nstat races 0\nstat inv 0\nstat down 0\nstat evict1 0\nstat clean 0\n\
+stat evict2 0\nstat fill 1\nstat grants 0\nstat grante 1\nstat grantm 0\nstatus 0\n",
         0,
     ),
     (

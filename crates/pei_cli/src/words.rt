@@ -3,9 +3,9 @@
 ghost use Rattle.std.specs.Prelude.{◌≡◌, ◌+◌, ◌<◌, [], Some, None, length, get_or, IfSome, option_map, if◌then◌else◌, true};
 ghost use Rattle.pei_types.specs.declared.machines.MachineSpec.{MachineSpec};
 ghost use Rattle.sched_run.specs.Choosing.{HasActorsOf};
-ghost use Rattle.pei_cli.specs.Commands.{asm_words, decimal_below, machine_word, schedule_word, sched_words, gen_words};
+ghost use Rattle.pei_cli.specs.Commands.{asm_words, decimal_below, machine_word, output_words, schedule_word, sched_words, gen_words};
 ghost use Rattle.pei_cli.specs.Jobs.{Generates, Prints, asked_by, policy_of_word};
-ghost use Rattle.pei_cli.specs.Asking.{Asks, HasBuiltInCores, machine_as, runs_as};
+ghost use Rattle.pei_cli.specs.Asking.{Asks, HasBuiltInCores, machine_as, output_as, runs_as};
 
 use pei_io::Text;
 use sched_run::Policy;
@@ -33,12 +33,22 @@ pub(crate) enum Machine {
     File,
 }
 
-/// A scheduled run with its report.
+/// What a run writes.
+#[derive(Clone, Copy)]
+pub(crate) enum Output {
+    /// Its report.
+    Report,
+    /// The trace of its journal.
+    Trace,
+}
+
+/// A scheduled run, and what is written of it.
 #[derive(Drop)]
 pub(crate) struct Run {
     pub machine: Machine,
     pub policy: Policy,
     pub turns: u64,
+    pub output: Output,
 }
 
 /// What the words ask for, if it is built.
@@ -71,16 +81,29 @@ fn run_words(words: &[Text]) -> Option<Run>
     ensures actors { IfSome result (λ j. (m : MachineSpec) → HasActorsOf m j.policy) }
     ensures none { result ≡ None → asked_by (sched_words words.now) ≡ None }
 {
-    let [_, machine, seed, turns] = words else {
+    let [_, machine, seed, turns, output @ ..] = words else {
         return None;
     };
+    let output = output_named(output)?;
     let turns = decimal_up_to(turns.as_str(), MOST_TURNS)?;
     let policy = policy(seed.as_str())?;
     Some(Run {
         machine: machine_named(machine.as_str()),
         policy,
         turns,
+        output,
     })
+}
+
+/// What a run writes, by the words behind its turns: its report without one, and its trace by the word `trace`.
+fn output_named(words: &[Text]) -> Option<Output>
+    ensures { option_map output_as result ≡ output_words words.now }
+{
+    match words {
+        [] => Some(Output::Report),
+        [word] if word.as_str() == "trace" => Some(Output::Trace),
+        _ => None,
+    }
 }
 
 /// The number that the word behind `gen` gives.

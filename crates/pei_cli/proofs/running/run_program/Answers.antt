@@ -1,28 +1,28 @@
 use Rattle.std.proofs.Common.{◌∙◌, ap}
 use Rattle.pei_types.specs.Ends.{status_of}
 use Rattle.pei_cli.specs.Asking.{job_of}
-use Rattle.pei_cli.proofs.Served.{served, served_front, asks_at_end, flat_at_end}
+use Rattle.pei_cli.proofs.Served.{served, served_front, asks_at_end}
 use Rattle.pei_cli.proofs.running.run_program.Goals as goal
 
 pub run_schedule-requires-clause-actors : goal.run_schedule-requires-clause-actors
 run_schedule-requires-clause-actors g c = c.requires c.args.machine.now
 
-pub write_report-requires-clause-asks : goal.write_report-requires-clause-asks
-write_report-requires-clause-asks g c =
+pub write_output-requires-clause-asks : goal.write_output-requires-clause-asks
+write_output-requires-clause-asks g c =
     asks_at_end c.args.program.now c.args.machine.now c.in-Ok.image _ c.in-Ok-run_schedule.end c.in-Ok.ensures.ok.1 c.in-Ok-run_schedule.ensures.run
 
-pub returns-in-Ok-write_report-clause-runs : goal.returns-in-Ok-write_report-clause-runs
-returns-in-Ok-write_report-clause-runs g c file name =
+pub returns-in-Ok-write_output-clause-runs : goal.returns-in-Ok-write_output-clause-runs
+returns-in-Ok-write_output-clause-runs g c file name =
     served (job_of file name c.args.run.now)
     c.args.program.now c.args.machine.now c.in-Ok.image c.in-Ok-run_schedule.end c.run_status-status.result c.into_journal.result _
     (record {
       begins = record { whole = c.in-Ok.ensures.ok.1; loaded = c.in-Ok.ensures.ok.0 };
       end = c.in-Ok-run_schedule.ensures.run;
+      legal = c.in-Ok-run_schedule.ensures.legal;
       laws = c.in-Ok-run_schedule.ensures.laws;
       told = c.run_status-status.ensures ∙ ap (status_of c.args.machine.now) c.journal.ensures.events;
     })
-    c.into_journal.ensures.events
-    (c.in-Ok-write_report.ensures.flat c.in-Ok.image (flat_at_end c.args.machine.now c.in-Ok.image _ c.in-Ok-run_schedule.end c.in-Ok-run_schedule.ensures.run))
+    c.into_journal.ensures.events c.in-Ok-write_output.ensures
 
 pub returns-clause-runs : goal.returns-clause-runs
 returns-clause-runs g c file name =
@@ -31,7 +31,8 @@ returns-clause-runs g c file name =
     (record {
       begins = record { whole = c.in-Ok.ensures.ok.1; loaded = c.in-Ok.ensures.ok.0 };
       end = c.in-Ok-run_schedule.ensures.run;
+      legal = c.in-Ok-run_schedule.ensures.legal;
       laws = c.in-Ok-run_schedule.ensures.laws;
       told = c.run_status-status.ensures ∙ ap (status_of c.args.machine.now) c.journal.ensures.events;
     })
-    (c.in-Err-write_report.ensures.flat c.in-Ok.image (flat_at_end c.args.machine.now c.in-Ok.image _ c.in-Ok-run_schedule.end c.in-Ok-run_schedule.ensures.run))
+    c.in-Err-write_output.ensures
