@@ -14,7 +14,7 @@ use Rattle.pei_loader.specs.Faults.{IsLoadRefusal}
 use Rattle.pei_loader.specs.declared.faults.LoadFault.{LoadFault}
 use Rattle.pei_loader.specs.declared.faults.LoadFault.TheVariants as load
 use Rattle.report.specs.Shown.{HasWords}
-use Rattle.sched_run.specs.Scheduled.{IsEndOf, run_of}
+use Rattle.sched_run.specs.Scheduled.{EndsInTime, IsEndOf, run_of}
 use Rattle.sched_run.specs.ElevenClauses.{ElevenClauses}
 use Rattle.sched_run.specs.declared.schedule.SchedEnd.{SchedEnd}
 use Rattle.fabric.specs.History.{History}
@@ -33,6 +33,7 @@ pub record Ran (job : Job) (p : Listing) (m : MachineSpec) (image : Contents) (v
   pub end : IsEndOf m image (run_of p m image job.policy job.turns) v
   pub legal : Legal p m image v.fabric.journal
   pub laws : ElevenClauses p m image v.fabric.journal
+  pub ends : EndsInTime m job.policy job.turns v.fabric.journal
   pub told : status ≡ status_of m v.fabric.journal
 
 -- the journal and the image at the end
@@ -58,6 +59,7 @@ served job p m image v status journal sink ran events written =
       (ran.told ∙ ap (status_of m) is, events ∙ is, ran.end.cores, ran.end.turns),
       subst (λ (js : List Event). Legal p m image js) is ran.legal,
       subst (λ (js : List Event). ElevenClauses p m image js) is ran.laws,
+      subst (λ (js : List Event). EndsInTime m job.policy job.turns js) is ran.ends,
       whole.0,
     )
 

@@ -20,7 +20,7 @@ use Rattle.pei_loader.specs.declared.faults.LoadFault.{LoadFault}
 use Rattle.pei_loader.specs.declared.faults.LoadFault.TheVariants as load
 use Rattle.machine_file.specs.Faults.{refusal_of}
 use Rattle.machine_file.specs.Machine.{DescribesOf, IsBuiltIn, file_fault, table_of}
-use Rattle.sched_run.specs.Scheduled.{run_of}
+use Rattle.sched_run.specs.Scheduled.{EndsInTime, run_of}
 use Rattle.sched_run.specs.ElevenClauses.{ElevenClauses}
 use Rattle.workload_gen.specs.Generated.{generated}
 use Rattle.pei_cli.specs.Commands.{MachineWord, BuiltIn, FromFile, Output, Report, Trace}
@@ -106,12 +106,13 @@ WritesText text sink = Added text sink.before sink.now
 abbrev pub WritesFront : List ℕ → SinkUse → Type 0
 WritesFront text sink = (n : ℕ) × (n ≤ length text) × Added (take n text) sink.before sink.now
 
--- The run of a program on a machine, whose journal is legal and meets each of the eleven clauses, and what is written of
--- it, or why there is none. Before a fault other than that of writing, nothing was written.
+-- The run of a program on a machine, whose journal is legal and meets each of the eleven clauses, and which ends in time on
+-- one core that goes on until it stalls; and what is written of it, or why there is none. Before a fault other than that of writing, nothing was written.
 abbrev pub RunsJob : Job → Listing → MachineSpec → SinkUse → Result PlainEnd Fault → Type 0
 RunsJob job p m sink (Ok end) =
     (image : Contents) × Begins p m image × IsAnswerOf m (run_of_job job p m image) end
     × Legal p m image (run_of_job job p m image).journal × ElevenClauses p m image (run_of_job job p m image).journal
+    × EndsInTime m job.policy job.turns (run_of_job job p m image).journal
     × WritesText (output_text job.output p m image (run_of_job job p m image).journal) sink
 RunsJob job p m sink (Err fault.WriteFault) =
     (image : Contents) × Begins p m image × WritesFront (output_text job.output p m image (run_of_job job p m image).journal) sink × Rose sink.faults sink.faults_now

@@ -9,21 +9,23 @@ use Rattle.pei_types.specs.declared.identifiers.CoreId.{CoreId}
 use Rattle.pei_types.specs.declared.events.Event.{Event}
 use Rattle.pei_types.specs.declared.machines.MachineSpec.{MachineSpec}
 use Rattle.pei_types.specs.Calls.{is_actor_of}
-use Rattle.pei_types.specs.Ends.{end_of, all_ended, ends_of}
+use Rattle.pei_types.specs.Ends.{end_of, all_ended, ends_of, status_of}
 use Rattle.pei_types.specs.Legal.{Legal}
 use Rattle.fabric.specs.History.{History}
 use Rattle.machine_laws.specs.Laws.{WholeRunsAreLegal}
+use Rattle.progress_laws.specs.Laws.{SerialRunsEnd}
 use Rattle.pei_types.specs.Program.{Listing, Contents}
 use Rattle.pei_types.specs.Schedule.{Run, run_at_start, whole_table, turn, next_actor}
 use Rattle.history_laws.specs.Laws.{PoliciesChooseActors}
 use Rattle.history_laws.specs.Sound.{ChoosesActors}
 use Rattle.sched_run.specs.Choosing.{policy_of, HasActorsOf}
 use Rattle.sched_run.specs.ElevenClauses.{ElevenClauses}
-use Rattle.sched_run.specs.Scheduled.{IsAfter, IsEndOf, run_of}
+use Rattle.sched_run.specs.Scheduled.{EndsInTime, IsAfter, IsEndOf, run_of}
 use Rattle.sched_run.specs.Tracking.{IsRunning, is_over, run_in}
 use Rattle.sched_run.specs.declared.policies.Policy.{Policy as Chosen}
 use Rattle.sched_run.specs.declared.policies.Policy.TheVariants as chosen
 use Rattle.sched_run.specs.declared.running.Running.{Running}
+use Rattle.sched_run.specs.declared.schedule.SchedEnd.{SchedEnd}
 use Rattle.sched_run.proofs.Runs.{gone_on, last_turn, over_after}
 
 -- ---- whether a run is over
@@ -155,3 +157,12 @@ pub ended_legally : WholeRunsAreLegal → (p : Listing) (m : MachineSpec) (image
 ended_legally laws p m image policy turns made start now from at =
     subst (λ k. Legal p k image now.fabric.journal) (at.machine ∙ ap (λ (h : History). h.machine) from)
     (subst (λ i. Legal p now.fabric.machine i now.fabric.journal) (at.image ∙ ap (λ (h : History). h.image) from) (laws.so_far p now.fabric.machine now.fabric.image (run_in now 0) at.running.whole).0)
+
+-- one core that goes on until it stalls ends in time
+pub ended_in_time : SerialRunsEnd → (p : Listing) (m : MachineSpec) (image : Contents) (policy : Chosen) (turns : ℕ) (v : SchedEnd) → IsEndOf m image (run_of p m image policy turns) v → EndsInTime m policy turns v.fabric.journal
+ended_in_time laws p m image policy turns v end =
+    subst (λ (h : History). EndsInTime m policy turns h.journal) (sym end.fabric)
+    (record {
+      not_spent = λ one serial enough. subst (λ (c : Chosen). status_of m (run_of p m image c turns).journal ≡ 7 → ⊥) (sym serial) (laws.not_spent p m image turns one enough);
+      not_full = λ one serial room. subst (λ (c : Chosen). status_of m (run_of p m image c turns).journal ≡ 6 → ⊥) (sym serial) (laws.not_full p m image turns one room);
+    })

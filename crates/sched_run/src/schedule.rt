@@ -5,7 +5,7 @@ ghost use Rattle.pei_types.specs.Legal.{Legal};
 ghost use Rattle.pei_types.specs.Schedule.{run_at_start};
 ghost use Rattle.sched_run.specs.Choosing.{HasActorsOf};
 ghost use Rattle.sched_run.specs.ElevenClauses.{ElevenClauses};
-ghost use Rattle.sched_run.specs.Scheduled.{IsAfter, IsEndOf, run_of};
+ghost use Rattle.sched_run.specs.Scheduled.{EndsInTime, IsAfter, IsEndOf, run_of};
 ghost use Rattle.sched_run.specs.Tracking.{IsRunning, run_in};
 
 use crate::policies::Policy;
@@ -42,8 +42,10 @@ pub fn run_schedule(
     ensures run { IfOk result (λ v. IsEndOf spec.now image.now (run_of program.now spec.now image.now policy.now turns) v) }
     ensures legal { IfOk result (λ v. Legal program.now spec.now image.now v.fabric.journal) }
     ensures laws { IfOk result (λ v. ElevenClauses program.now spec.now image.now v.fabric.journal) }
+    ensures ends_in_time { IfOk result (λ v. EndsInTime spec.now policy.now turns v.fabric.journal) }
 {
     machine_laws::laws::whole_runs_are_legal();
+    progress_laws::laws::serial_runs_end();
     let mut running = Running::start(alloc, spec, image)?;
     let made = play(&mut running, program, policy, turns);
     Ok(SchedEnd {
