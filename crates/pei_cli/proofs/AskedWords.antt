@@ -3,8 +3,8 @@ use Rattle.std.proofs.Common.{◌≡◌, ℕ, ◌<◌, ◌≤◌, Bool, true, fa
 use Rattle.std.specs.Str.{bytes_eq}
 use Rattle.std.proofs.lemmas.Slice.Eq.{bytes_eq-Decides}
 use Rattle.sched_run.specs.declared.policies.Policy.{Policy}
-use Rattle.pei_cli.specs.Asking.{machine_as, output_as, runs_as}
-use Rattle.pei_cli.specs.Commands.{MachineWord, Run, ScheduleWord, Sched, Output, machine_word, schedule_word, turns_word, sched_words, asm_words, run_words, check_words, gen_words, output_words}
+use Rattle.pei_cli.specs.Asking.{checks_as, machine_as, output_as, runs_as}
+use Rattle.pei_cli.specs.Commands.{MachineWord, Run, ScheduleWord, Sched, Check, Output, machine_word, schedule_word, turns_word, sched_words, asm_words, run_words, check_words, gen_words, output_words}
 use Rattle.pei_cli.specs.Jobs.{asked_by, asked_of, policy_of_word}
 use Rattle.pei_cli.specs.declared.words.Machine.{Machine}
 use Rattle.pei_cli.specs.declared.words.Output.{Output as Written}
@@ -20,13 +20,6 @@ no_run (program ∷ machine ∷ more) = by (output_words more)
     by None = refl
     by (Some output) = refl
 
-no_check : (rest : List (List ℕ)) → asked_by (check_words rest) ≡ None
-no_check [] = refl
-no_check (program ∷ []) = refl
-no_check (program ∷ machine ∷ []) = refl
-no_check (program ∷ machine ∷ trace ∷ []) = refl
-no_check (program ∷ machine ∷ trace ∷ other ∷ more) = refl
-
 -- another word
 not_this : (word verb : List ℕ) → (verb ≡ word → ⊥) → bytes_eq word verb ≡ false
 not_this word verb other = by (bytes_eq word verb) refl
@@ -35,20 +28,20 @@ not_this word verb other = by (bytes_eq word verb) refl
     by true e = absurd (other (sym ((bytes_eq-Decides word verb).0 e)))
     by false e = e
 
--- so does any verb but three
-pub other_verb : (verb : List ℕ) (rest : List (List ℕ)) → (verb ≡ codes "asm" → ⊥) → (verb ≡ codes "sched" → ⊥) → (verb ≡ codes "gen" → ⊥) → asked_of (verb ∷ rest) ≡ None
-other_verb verb rest not_asm not_sched not_gen =
+-- so does any verb but four
+pub other_verb : (verb : List ℕ) (rest : List (List ℕ)) → (verb ≡ codes "asm" → ⊥) → (verb ≡ codes "sched" → ⊥) → (verb ≡ codes "check" → ⊥) → (verb ≡ codes "gen" → ⊥) → asked_of (verb ∷ rest) ≡ None
+other_verb verb rest not_asm not_sched not_check not_gen =
     by (bytes_eq (codes "asm") verb) (bytes_eq (codes "sched") verb) (bytes_eq (codes "run") verb) (bytes_eq (codes "check") verb) (bytes_eq (codes "gen") verb)
-    (not_this (codes "asm") verb not_asm) (not_this (codes "sched") verb not_sched) (not_this (codes "gen") verb not_gen)
+    (not_this (codes "asm") verb not_asm) (not_this (codes "sched") verb not_sched) (not_this (codes "check") verb not_check) (not_this (codes "gen") verb not_gen)
   where
-    by : (a s r c g : Bool) → a ≡ false → s ≡ false → g ≡ false
+    by : (a s r c g : Bool) → a ≡ false → s ≡ false → c ≡ false → g ≡ false
         → asked_by (if a then asm_words rest else (if s then sched_words rest else (if r then run_words rest else (if c then check_words rest else (if g then gen_words rest else None))))) ≡ None
-    by true s r c g d e f = absurd (cc d)
-    by false true r c g d e f = absurd (cc e)
-    by false false true c g d e f = no_run rest
-    by false false false true g d e f = no_check rest
-    by false false false false true d e f = absurd (cc f)
-    by false false false false false d e f = refl
+    by true s r c g d e f h = absurd (cc d)
+    by false true r c g d e f h = absurd (cc e)
+    by false false true c g d e f h = no_run rest
+    by false false false true g d e f h = absurd (cc f)
+    by false false false false true d e f h = absurd (cc h)
+    by false false false false false d e f h = refl
 
 -- ---- a scheduled run
 
@@ -71,3 +64,17 @@ asked_run (a ∷ b ∷ c ∷ d ∷ more) machine seed count rest k policy turns 
     by (Some s) None m o seeds counts named written = absurd (cc counts)
     by (Some s) (Some n) m None seeds counts named written = absurd (cc written)
     by (Some s) (Some n) m (Some w) seeds counts named written = cc
+
+-- ---- a check
+
+-- the check that three words behind `check` ask for
+pub asked_check : (words : List (List ℕ)) (machine : List ℕ) (k : Machine) → 3 ≤ length words → length words < 4 → machine ≡ get_or words 1 machine → machine_word machine ≡ machine_as machine k → asked_by (check_words words) ≡ Some (checks_as (get_or words 0 []) (get_or words 1 []) (get_or words 2 []) k)
+asked_check [] machine k some few at_1 named = absurd (omega (arith, some))
+asked_check (a ∷ []) machine k some few at_1 named = absurd (omega (arith, some))
+asked_check (a ∷ b ∷ []) machine k some few at_1 named = absurd (omega (arith, some))
+asked_check (a ∷ b ∷ c ∷ d ∷ more) machine k some few at_1 named = absurd (omega (arith, few))
+asked_check (a ∷ b ∷ c ∷ []) machine k some few at_1 named =
+    by (machine_word b) (subst (λ (w : List ℕ). machine_word w ≡ machine_as w k) at_1 named)
+  where
+    by : (m : MachineWord) → m ≡ machine_as b k → asked_by (Some (Check a m c)) ≡ Some (checks_as a b c k)
+    by m e = cc

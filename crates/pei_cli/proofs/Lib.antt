@@ -6,3 +6,4 @@ pub mod WritingOn
 pub mod FileUses
 pub mod Served
 pub mod RunsServed
+mod ChecksServed

@@ -4,7 +4,7 @@ use Rattle.pei_types.specs.Limits.{IsWithin}
 use Rattle.pei_types.specs.declared.machines.MachineSpec.{MachineSpec}
 use Rattle.sched_run.specs.Choosing.{HasActorsOf}
 use Rattle.pei_cli.specs.Commands.{MachineWord, BuiltIn, FromFile, Output, Report, Trace}
-use Rattle.pei_cli.specs.Jobs.{Job, Asked, Runs, Prints, Generates, asked_of}
+use Rattle.pei_cli.specs.Jobs.{Job, Asked, Runs, Checks, Prints, Generates, asked_of}
 use Rattle.pei_cli.specs.declared.words.Asked.{Asked as Parsed}
 use Rattle.pei_cli.specs.declared.words.Asked.TheVariants as parsed
 use Rattle.pei_cli.specs.declared.words.Machine.{Machine}
@@ -35,12 +35,17 @@ job_of program name j = record { program = program; machine = machine_as name j.
 abbrev pub runs_as : List ℕ → List ℕ → Run → Asked
 runs_as program name j = Runs (job_of program name j)
 
--- It is what the words ask for; the program to run or to print is the second word, and the machine of a run the third; a
--- run's policy names only actors of its machine.
+abbrev pub checks_as : List ℕ → List ℕ → List ℕ → Machine → Asked
+checks_as program name trace k = Checks (record { program = program; machine = machine_as name k; trace = trace })
+
+-- It is what the words ask for; the program is the second word, the machine of a run or of a check the third, and a trace the
+-- fourth; a run's policy names only actors of its machine.
 abbrev pub Asks : List (List ℕ) → Option Parsed → Type 0
 Asks words None = asked_of words ≡ None
 Asks words (Some (parsed.Run j)) =
     (asked_of words ≡ Some (runs_as (get_or words 1 []) (get_or words 2 []) j)) × (2 < length words) × HasBuiltInCores j.machine
     × ((m : MachineSpec) → HasActorsOf m j.policy)
+Asks words (Some (parsed.Check k)) =
+    (asked_of words ≡ Some (checks_as (get_or words 1 []) (get_or words 2 []) (get_or words 3 []) k)) × (3 < length words) × HasBuiltInCores k
 Asks words (Some parsed.Print) = (asked_of words ≡ Some (Prints (get_or words 1 []))) × (1 < length words)
 Asks words (Some (parsed.Generate n)) = asked_of words ≡ Some (Generates n)

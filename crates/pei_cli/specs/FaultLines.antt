@@ -37,6 +37,7 @@ status_of_fault fault.Usage = 2
 status_of_fault (fault.ProgramBad f) = 3
 status_of_fault (fault.LoadBad f) = 3
 status_of_fault (fault.MachineBad f) = 4
+status_of_fault (fault.TraceBad line) = 11
 status_of_fault (fault.InputTooLong w) = 13
 status_of_fault (fault.ReadFault w) = 8
 status_of_fault fault.WriteFault = 9
@@ -102,6 +103,7 @@ fault_line (fault.ProgramBad f) =
     line (codes "program" ∷ codes "bad" ∷ (decimal f.line ++ codes ":" ++ decimal f.column) ∷ asm_word f.kind ∷ [])
 fault_line (fault.LoadBad f) = load_fault_line f
 fault_line (fault.MachineBad f) = machine_line (machine_kind f) (told_key f)
+fault_line (fault.TraceBad number) = line (codes "trace" ∷ codes "bad" ∷ decimal number ∷ [])
 fault_line (fault.InputTooLong w) = codes "input too long " ++ which_word w ++ codes "\n"
 fault_line (fault.ReadFault w) = line (codes "read" ∷ codes "fault" ∷ which_word w ∷ [])
 fault_line fault.WriteFault = codes "write fault\n"

@@ -4,7 +4,7 @@ use Rattle.sched_run.specs.declared.policies.Policy.{Policy}
 use Rattle.sched_run.specs.declared.policies.Policy.TheVariants as policy
 use Rattle.pei_io.specs.declared.files.Which.{Which}
 use Rattle.pei_io.specs.declared.files.Which.TheVariants as which
-use Rattle.pei_cli.specs.Commands.{Command, Asm, Sched, Gen, MachineWord, ScheduleWord, InTurn, Serial, Seeded, Output, file_of_machine, is_run, plain_command_of}
+use Rattle.pei_cli.specs.Commands.{Command, Asm, Sched, Check, Gen, MachineWord, ScheduleWord, InTurn, Serial, Seeded, Output, file_of_machine, is_run, plain_command_of}
 
 -- A scheduled run: the name of the program's file, the machine, who takes the turns, how many at most, and what is written
 -- of it.
@@ -20,17 +20,25 @@ policy_of_word InTurn = policy.RoundRobin
 policy_of_word Serial = policy.Serial
 policy_of_word (Seeded seed) = policy.Seeded seed
 
+-- a check of a trace: the names of the program's file and of the trace's, and the machine
+pub record Question : Type 0 where
+  pub program : List ℕ
+  pub machine : MachineWord
+  pub trace : List ℕ
+
 -- what words can ask for
 pub data Asked : Type 0 where
   Runs : Job → Asked
+  Checks : Question → Asked
   Prints : (file : List ℕ) → Asked
   Generates : (n : ℕ) → Asked
 
--- of the commands, the canonical text of a program, a scheduled run, and the generated program are built
+-- of the commands, all but the threaded run are built
 abbrev pub built : Command → Option Asked
 built (Asm program) = Some (Prints program)
 built (Sched program machine schedule turns output) =
     Some (Runs (record { program = program; machine = machine; policy = policy_of_word schedule; turns = turns; output = output }))
+built (Check program machine trace) = Some (Checks (record { program = program; machine = machine; trace = trace }))
 built (Gen n) = Some (Generates n)
 built _ = None
 
@@ -41,9 +49,12 @@ asked_by c = option_and_then built (option_and_then (λ x. if is_run x then None
 abbrev pub asked_of : List (List ℕ) → Option Asked
 asked_of words = option_and_then built (plain_command_of words)
 
--- the name of the file that it has in each place: its program, and its machine where that is a file
+-- the name of the file that it has in each place: its program, its machine where that is a file, and its trace
 abbrev pub file_of : Asked → Which → Option (List ℕ)
 file_of (Runs job) which.Program = Some job.program
 file_of (Runs job) which.Machine = file_of_machine job.machine
+file_of (Checks question) which.Program = Some question.program
+file_of (Checks question) which.Machine = file_of_machine question.machine
+file_of (Checks question) which.Trace = Some question.trace
 file_of (Prints file) which.Program = Some file
 file_of _ _ = None

@@ -1,5 +1,5 @@
 -- What a command comes to.
-use Rattle.std.specs.Prelude.{◌≡◌, ◌≢◌, ◌⊎◌, ℕ, ◌<◌, ◌≤◌, List, length, take, Some, None, IfSome, IsSomeAnd, Result, Ok, Err}
+use Rattle.std.specs.Prelude.{◌≡◌, ◌≢◌, ◌⊎◌, ℕ, ◌+◌, ◌<◌, ◌≤◌, List, [], length, take, Some, None, IfSome, IsSomeAnd, Result, Ok, Err}
 use Rattle.pei_types.specs.declared.events.Event.{Event}
 use Rattle.pei_types.specs.declared.machines.MachineSpec.{MachineSpec}
 use Rattle.pei_types.specs.Ends.{ends_of, status_of}
@@ -18,13 +18,19 @@ use Rattle.pei_asm.specs.Spelling.{Spells}
 use Rattle.pei_loader.specs.Faults.{IsLoadRefusal}
 use Rattle.pei_loader.specs.declared.faults.LoadFault.{LoadFault}
 use Rattle.pei_loader.specs.declared.faults.LoadFault.TheVariants as load
+use Rattle.journal.specs.Recorded.{Recorded}
+use Rattle.journal.specs.Traces.{IsFirstBad, IsTrace}
 use Rattle.machine_file.specs.Faults.{refusal_of}
 use Rattle.machine_file.specs.Machine.{DescribesOf, IsBuiltIn, file_fault, table_of}
 use Rattle.sched_run.specs.Scheduled.{EndsInTime, run_of}
 use Rattle.sched_run.specs.ElevenClauses.{ElevenClauses}
+use Rattle.trace_check.specs.Verdicts.{IsVerdict}
+use Rattle.trace_check.specs.declared.verdicts.Verdict.{Verdict}
 use Rattle.workload_gen.specs.Generated.{generated}
 use Rattle.pei_cli.specs.Commands.{MachineWord, BuiltIn, FromFile, Output, Report, Trace}
-use Rattle.pei_cli.specs.Jobs.{Job, Asked, Runs, Prints, Generates}
+use Rattle.pei_cli.specs.FaultLines.{fault_of_loading}
+use Rattle.pei_cli.specs.Jobs.{Job, Question, Asked, Runs, Checks, Prints, Generates}
+use Rattle.pei_cli.specs.VerdictLines.{status_of_verdict, verdict_line}
 use Rattle.pei_cli.specs.Uses.{FileUse, SinkUse, IsUnopened}
 use Rattle.pei_cli.specs.declared.ends.PlainEnd.{PlainEnd}
 use Rattle.pei_cli.specs.declared.ends.PlainEnd.TheVariants as ends
@@ -33,31 +39,37 @@ use Rattle.pei_cli.specs.declared.faults.Fault.TheVariants as fault
 
 -- ---- reading a file
 
+-- the most bytes of a file
+abbrev pub most_bytes : Which → ℕ
+most_bytes which.Program = 1048576
+most_bytes which.Machine = 1048576
+most_bytes which.Trace = 134217728
+
 -- The file of this name was opened and read: these bytes are what it holds, where that is told, as many were taken, and
 -- they are no more than a file may have.
-pub record IsRead (u : FileUse) (file bytes : List ℕ) : Type 0 where
+pub record IsRead (w : Which) (u : FileUse) (file bytes : List ℕ) : Type 0 where
   pub named : u.now.name ≡ Some file
   pub content : IfSome (u.held file) (λ b. bytes ≡ b)
   pub count : u.now.taken ≡ length bytes
-  pub within : length bytes ≤ 1048576
+  pub within : length bytes ≤ most_bytes w
 
 -- Why the file of this name was not read: it has more bytes than it may have, of which one more than that was taken; or it
 -- could not be opened or read, and that was counted. Want of memory is free, but of a file that is too long the first is
 -- told: so a file is too long exactly where one byte more than it may have was taken.
 abbrev pub FailsToRead : Which → List ℕ → FileUse → Fault → Type 0
 FailsToRead w file u (fault.InputTooLong x) =
-    (x ≡ w) × (u.now.name ≡ Some file) × (u.now.taken ≡ 1048577) × IfSome (u.held file) (λ b. 1048576 < length b)
-FailsToRead w file u (fault.ReadFault x) = (x ≡ w) × (u.now.name ≡ Some file) × Rose u.before.faults u.now.faults × (u.now.taken ≤ 1048576)
-FailsToRead w file u fault.OutOfMemory = u.now.taken ≤ 1048576
+    (x ≡ w) × (u.now.name ≡ Some file) × (u.now.taken ≡ most_bytes w + 1) × IfSome (u.held file) (λ b. most_bytes w < length b)
+FailsToRead w file u (fault.ReadFault x) = (x ≡ w) × (u.now.name ≡ Some file) × Rose u.before.faults u.now.faults × (u.now.taken ≤ most_bytes w)
+FailsToRead w file u fault.OutOfMemory = u.now.taken ≤ most_bytes w
 FailsToRead w file u _ = ⊥
 
 -- ---- reading the program
 
 -- The program that the file's text spells, or why there is none: the first fault of the text, or that it was not read.
 abbrev pub ReadsProgram : List ℕ → FileUse → Result Listing Fault → Type 0
-ReadsProgram file u (Ok p) = (text : List ℕ) × IsRead u file text × Spells text p
+ReadsProgram file u (Ok p) = (text : List ℕ) × IsRead which.Program u file text × Spells text p
 ReadsProgram file u (Err (fault.ProgramBad f)) =
-    (f.kind ≢ kind.OutOfMemory) × (text : List ℕ) × IsRead u file text × (first_fault text ≡ Some f)
+    (f.kind ≢ kind.OutOfMemory) × (text : List ℕ) × IsRead which.Program u file text × (first_fault text ≡ Some f)
 ReadsProgram file u (Err f) = FailsToRead which.Program file u f
 
 -- ---- reading the machine
@@ -67,12 +79,20 @@ ReadsProgram file u (Err f) = FailsToRead which.Program file u f
 abbrev pub ReadsMachine : MachineWord → FileUse → Result MachineSpec Fault → Type 0
 ReadsMachine (BuiltIn cores) u (Ok m) = IsBuiltIn cores m × IsUnopened u
 ReadsMachine (BuiltIn cores) u (Err f) = ⊥
-ReadsMachine (FromFile file) u (Ok m) = (bytes : List ℕ) × IsRead u file bytes × DescribesOf (table_of bytes) m
+ReadsMachine (FromFile file) u (Ok m) = (bytes : List ℕ) × IsRead which.Machine u file bytes × DescribesOf (table_of bytes) m
 ReadsMachine (FromFile file) u (Err (fault.MachineBad f)) =
-    (bytes : List ℕ) × IsRead u file bytes × IsSomeAnd (refusal_of f) (λ r. file_fault bytes ≡ Some r)
+    (bytes : List ℕ) × IsRead which.Machine u file bytes × IsSomeAnd (refusal_of f) (λ r. file_fault bytes ≡ Some r)
 ReadsMachine (FromFile file) u (Err f) = FailsToRead which.Machine file u f
 
--- ---- running it
+-- ---- reading a trace
+
+-- The journal whose trace the file holds, or why there is none: the first bad line, or that it was not read.
+abbrev pub ReadsTrace : List ℕ → FileUse → Result Recorded Fault → Type 0
+ReadsTrace file u (Ok journal) = (text : List ℕ) × IsRead which.Trace u file text × IsTrace text journal.events
+ReadsTrace file u (Err (fault.TraceBad line)) = (text : List ℕ) × IsRead which.Trace u file text × IsFirstBad text line
+ReadsTrace file u (Err f) = FailsToRead which.Trace file u f
+
+-- ---- running a program
 
 -- the program is loaded on the machine, and nothing of it was refused
 pub record Begins (p : Listing) (m : MachineSpec) (image : Contents) : Type 0 where
@@ -92,7 +112,7 @@ run_of_job job p m image = run_of p m image job.policy job.turns
 abbrev pub IsAnswerOf : MachineSpec → Run → PlainEnd → Type 0
 IsAnswerOf m r (ends.Sched status journal cores turns) =
     (status ≡ status_of m r.journal) × (journal.events ≡ r.journal) × (cores ≡ ends_of r.journal) × (turns ≡ r.turns)
-IsAnswerOf m r (ends.Text status) = ⊥
+IsAnswerOf m r _ = ⊥
 
 -- what is written of a run: its report, or the trace of its journal
 abbrev pub output_text : Output → Listing → MachineSpec → Contents → List Event → List ℕ
@@ -120,7 +140,40 @@ RunsJob job p m sink (Err (fault.LoadBad f)) = IsFirstLoadFault p m f × (sink.n
 RunsJob job p m sink (Err fault.OutOfMemory) = sink.now ≡ sink.before
 RunsJob job p m sink (Err _) = ⊥
 
--- ---- printing it
+-- ---- checking a trace
+
+-- the verdict on a journal that was answered, its status, and its line
+abbrev pub IsVerdictOf : Listing → MachineSpec → Contents → List Event → PlainEnd → Type 0
+IsVerdictOf p m image journal (ends.Checked status verdict) = IsVerdict p m image journal verdict × (status ≡ status_of_verdict verdict)
+IsVerdictOf p m image journal _ = ⊥
+
+abbrev pub line_of_end : PlainEnd → List ℕ
+line_of_end (ends.Checked status verdict) = verdict_line verdict
+line_of_end _ = []
+
+-- The exact verdict on a journal, of which its line was written, or a front of it. Before a fault other than that of writing,
+-- nothing was written.
+abbrev pub Judges : Listing → MachineSpec → Contents → List Event → SinkUse → Result PlainEnd Fault → Type 0
+Judges p m image journal sink (Ok end) = IsVerdictOf p m image journal end × WritesText (line_of_end end) sink
+Judges p m image journal sink (Err fault.WriteFault) =
+    (verdict : Verdict) × IsVerdict p m image journal verdict × WritesFront (verdict_line verdict) sink × Rose sink.faults sink.faults_now
+Judges p m image journal sink (Err fault.OutOfMemory) = sink.now ≡ sink.before
+Judges p m image journal sink (Err _) = ⊥
+
+-- The trace was not read, and nothing was written; or it was, and this is the verdict on its journal.
+abbrev pub JudgesFile : List ℕ → Listing → MachineSpec → Contents → FileUse → SinkUse → Result PlainEnd Fault → Type 0
+JudgesFile file p m image u sink result =
+    ((f : Fault) × (result ≡ Err f) × ReadsTrace file u (Err f) × (sink.now ≡ sink.before))
+    ⊎ ((journal : Recorded) × ReadsTrace file u (Ok journal) × Judges p m image journal.events sink result)
+
+-- The program was not loaded, no trace was opened, and nothing was written: its first load fault, or want of memory; or it was
+-- loaded, and what comes behind it is the above.
+abbrev pub LoadsAndJudges : List ℕ → Listing → MachineSpec → FileUse → SinkUse → Result PlainEnd Fault → Type 0
+LoadsAndJudges file p m u sink result =
+    ((f : LoadFault) × (result ≡ Err (fault_of_loading f)) × IsLoadRefusal p m f × IsUnopened u × (sink.now ≡ sink.before))
+    ⊎ ((image : Contents) × Begins p m image × JudgesFile file p m image u sink result)
+
+-- ---- printing a program
 
 -- The canonical text of the program was written, or a front of it. Before a fault other than that of writing, nothing was
 -- written.
@@ -148,13 +201,22 @@ RunsOnMachine job p u sink result =
     ((f : Fault) × (result ≡ Err f) × ReadsMachine job.machine u (Err f) × (sink.now ≡ sink.before))
     ⊎ ((m : MachineSpec) × ReadsMachine job.machine u (Ok m) × RunsJob job p m sink result)
 
+-- The machine was not read, no trace was opened, and nothing was written; or the machine was read, and this is the check.
+abbrev pub ChecksOnMachine : Question → Listing → (Which → FileUse) → SinkUse → Result PlainEnd Fault → Type 0
+ChecksOnMachine question p uses sink result =
+    ((f : Fault) × (result ≡ Err f) × ReadsMachine question.machine (uses which.Machine) (Err f) × IsUnopened (uses which.Trace) × (sink.now ≡ sink.before))
+    ⊎ ((m : MachineSpec) × ReadsMachine question.machine (uses which.Machine) (Ok m) × LoadsAndJudges question.trace p m (uses which.Trace) sink result)
+
 -- A run: the program was not read, no file of a machine was opened, and nothing was written; or the program was read, and
--- what comes behind it is the above. A canonical text: the program was not read, and nothing was written; or it was, and
+-- what comes behind it is the above. A check likewise: no file is opened behind one that was not read. A canonical text: the program was not read, and nothing was written; or it was, and
 -- this is its text. Or a generated program.
 abbrev pub Serves : Asked → (Which → FileUse) → SinkUse → Result PlainEnd Fault → Type 0
 Serves (Runs job) uses sink result =
     ((f : Fault) × (result ≡ Err f) × ReadsProgram job.program (uses which.Program) (Err f) × IsUnopened (uses which.Machine) × (sink.now ≡ sink.before))
     ⊎ ((p : Listing) × ReadsProgram job.program (uses which.Program) (Ok p) × RunsOnMachine job p (uses which.Machine) sink result)
+Serves (Checks question) uses sink result =
+    ((f : Fault) × (result ≡ Err f) × ReadsProgram question.program (uses which.Program) (Err f) × IsUnopened (uses which.Machine) × IsUnopened (uses which.Trace) × (sink.now ≡ sink.before))
+    ⊎ ((p : Listing) × ReadsProgram question.program (uses which.Program) (Ok p) × ChecksOnMachine question p uses sink result)
 Serves (Prints file) uses sink result =
     ((f : Fault) × (result ≡ Err f) × ReadsProgram file (uses which.Program) (Err f) × (sink.now ≡ sink.before))
     ⊎ ((p : Listing) × ReadsProgram file (uses which.Program) (Ok p) × PrintsProgram p sink result)

@@ -2,6 +2,7 @@
 
 use journal::Journal;
 use pei_types::EndKind;
+use trace_check::Verdict;
 
 /// What a command came to.
 #[derive(Drop)]
@@ -14,6 +15,11 @@ pub enum PlainEnd {
         journal: Journal,
         cores: [Option<EndKind>; 8],
         turns: u64,
+    },
+    /// A check: the verdict on the trace, whose status is 0 where it is legal and 12 where it is not.
+    Checked {
+        status: u8,
+        verdict: Verdict,
     },
     /// A text was written; the status is 0.
     Text {

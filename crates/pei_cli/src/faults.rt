@@ -22,6 +22,8 @@ pub enum Fault {
     LoadBad(LoadFault),
     /// The machine's file is refused.
     MachineBad(MachineFault),
+    /// The trace's file has a bad line; the first line is line 1.
+    TraceBad { line: u32 },
     /// A file has more bytes than it may have.
     InputTooLong { which: Which },
     /// A file could not be opened or read.
@@ -70,6 +72,7 @@ pub fn status_of(fault: &Fault) -> u8
         Fault::Usage => 2,
         Fault::ProgramBad(_) | Fault::LoadBad(_) => 3,
         Fault::MachineBad(_) => 4,
+        Fault::TraceBad { .. } => 11,
         Fault::InputTooLong { .. } => 13,
         Fault::ReadFault { .. } => 8,
         Fault::WriteFault => 9,
@@ -89,6 +92,7 @@ pub fn write_fault<K: Sink>(fault: &Fault, sink: &mut K) -> Result<(), Failed>
         Fault::ProgramBad(fault) => write_program_bad(fault, sink),
         Fault::LoadBad(fault) => write_load_bad(fault, sink),
         Fault::MachineBad(fault) => write_machine_bad(fault, sink),
+        Fault::TraceBad { line } => write_trace_bad(*line, sink),
         Fault::InputTooLong { which } => write_too_long(*which, sink),
         Fault::ReadFault { which } => {
             write_pieces(sink, &[b"read fault ", which_word(*which), b"\n"])
@@ -103,6 +107,15 @@ fn write_too_long<K: Sink>(which: Which, sink: &mut K) -> Result<(), Failed>
     ensures { Writes (fault_line (Fault.InputTooLong which)) (K.written sink.old) (K.written sink.new) (K.faults sink.old) (K.faults sink.new) result }
 {
     write_pieces(sink, &[b"input too long ", which_word(which), b"\n"])
+}
+
+/// Writes the line of a trace's bad line.
+fn write_trace_bad<K: Sink>(line: u32, sink: &mut K) -> Result<(), Failed>
+    ensures { Writes (fault_line (Fault.TraceBad line)) (K.written sink.old) (K.written sink.new) (K.faults sink.old) (K.faults sink.new) result }
+{
+    let mut buffer = Buffer::new();
+    let number = buffer.format(line).as_bytes();
+    write_pieces(sink, &[b"trace bad ", number, b"\n"])
 }
 
 /// Writes the line of a fault of a program's text.

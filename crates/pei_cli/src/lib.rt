@@ -1,6 +1,7 @@
 //! The top calls of peisim: what a command answers and writes.
 #![tactic(auto)]
 
+mod checking;
 mod ends;
 mod faults;
 mod printing;
@@ -8,6 +9,7 @@ mod reading;
 mod running;
 mod serving;
 mod status;
+mod verdicts;
 mod words;
 mod writing;
 
@@ -16,6 +18,9 @@ pub use faults::{Fault, status_of, write_fault};
 pub use machine_file::MachineFault;
 pub use pei_loader::LoadFault;
 pub use serving::plain;
+pub use trace_check::Verdict;
 
+#[cfg(test)]
+mod check_tests;
 #[cfg(test)]
 mod tests;

@@ -5,19 +5,27 @@ ghost use Rattle.pei_asm.specs.Canonical.{IsPrintable};
 ghost use Rattle.pei_io.specs.Outside.{LeavesOthers};
 ghost use Rattle.pei_cli.specs.Asking.{HasBuiltInCores, machine_as};
 ghost use Rattle.pei_cli.specs.Commands.{FromFile, file_of_machine};
-ghost use Rattle.pei_cli.specs.Serving.{FailsToRead, IsRead, ReadsMachine, ReadsProgram};
+ghost use Rattle.pei_cli.specs.Serving.{FailsToRead, IsRead, ReadsMachine, ReadsProgram, ReadsTrace, most_bytes};
 ghost use Rattle.pei_cli.specs.Uses.{file_use};
 
 use crate::faults::{Fault, machine_fault, text_fault};
 use crate::words::Machine;
+use journal::{Journal, TraceFault, read_trace};
 use machine_file::{built_in, read_machine};
 use pei_asm::assemble;
 use pei_io::{Bytes, Files, ReadEnd, Which, read_limited};
 use pei_types::{MachineSpec, Program};
 use std::alloc::Global;
 
-/// The most bytes of a file.
-const MOST_BYTES: u32 = 1_048_576;
+/// The most bytes of a file: of a trace 134,217,728, of the others 1,048,576.
+fn most_bytes(which: Which) -> u32
+    ensures { result ≡ most_bytes which }
+{
+    match which {
+        Which::Program | Which::Machine => 1_048_576,
+        Which::Trace => 134_217_728,
+    }
+}
 
 /// Reads the program of a file of this name.
 pub(crate) fn read_program<F: Files>(
@@ -76,6 +84,25 @@ fn read_machine_file<F: Files>(
     }
 }
 
+/// Reads the journal whose trace a file of this name holds.
+pub(crate) fn read_trace_file<F: Files>(
+    alloc: Global,
+    files: &mut F,
+    name: &str,
+) -> Result<Journal, Fault>
+    requires { F.name files.old Which.Trace ≡ None }
+    ensures reads { ReadsTrace name.now (file_use F.held F.left F.name F.taken F.faults files.old files.new Which.Trace) result }
+    ensures rising { F.faults files.old Which.Trace ≤ F.faults files.new Which.Trace }
+    ensures others { LeavesOthers F.held F.left F.name F.taken F.faults Which.Trace files.old files.new }
+{
+    let bytes = read_file(alloc, files, Which::Trace, name)?;
+    match read_trace(alloc, bytes.as_slice()) {
+        Ok(journal) => Ok(journal),
+        Err(TraceFault::Bad { line }) => Err(Fault::TraceBad { line }),
+        Err(TraceFault::OutOfMemory) => Err(Fault::OutOfMemory),
+    }
+}
+
 /// Reads a file of this name that was not opened before.
 fn read_file<F: Files>(
     alloc: Global,
@@ -84,12 +111,12 @@ fn read_file<F: Files>(
     name: &str,
 ) -> Result<Bytes, Fault>
     requires { F.name files.old which ≡ None }
-    ensures read { IfOk result (λ bytes. IsRead (file_use F.held F.left F.name F.taken F.faults files.old files.new which) name.now bytes) }
+    ensures read { IfOk result (λ bytes. IsRead which (file_use F.held F.left F.name F.taken F.faults files.old files.new which) name.now bytes) }
     ensures failed { IfErr result (λ f. FailsToRead which name.now (file_use F.held F.left F.name F.taken F.faults files.old files.new which) f) }
     ensures rising { F.faults files.old which ≤ F.faults files.new which }
     ensures others { LeavesOthers F.held F.left F.name F.taken F.faults which files.old files.new }
 {
-    match read_limited(alloc, files, which, name, MOST_BYTES) {
+    match read_limited(alloc, files, which, name, most_bytes(which)) {
         Ok(bytes) => Ok(bytes),
         Err(ReadEnd::Failed) => Err(Fault::ReadFault { which }),
         Err(ReadEnd::TooLong) => Err(Fault::InputTooLong { which }),

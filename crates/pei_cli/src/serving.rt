@@ -6,6 +6,7 @@ ghost use Rattle.pei_cli.specs.Jobs.{Generates, asked_of, file_of};
 ghost use Rattle.pei_cli.specs.Serving.{Serves};
 ghost use Rattle.pei_cli.specs.Uses.{TouchesOnly, file_use, sink_use};
 
+use crate::checking::check_file;
 use crate::ends::PlainEnd;
 use crate::faults::Fault;
 use crate::printing::{print_file, write_generated};
@@ -17,14 +18,15 @@ use std::alloc::Global;
 /// Serves the words `sched PROGRAM MACHINE SEED TURNS`: it reads the program, reads the machine where that is a file,
 /// runs the program by the schedule on the whole machine of these sizes, and writes the report to the sink; with the word
 /// `trace` behind them it writes the trace of the run's journal instead. It serves `asm PROGRAM`: it reads the program and
-/// writes its canonical text. And it serves `gen N`: it writes the generated program of that number.
+/// writes its canonical text. It serves `check PROGRAM MACHINE TRACE`: it reads all three, checks the trace against the program
+/// on the machine, and writes the verdict. And it serves `gen N`: it writes the generated program of that number.
 ///
-/// PROGRAM is a file's name. MACHINE is `-1` to `-8`, the built-in machine of that many cores, and any other word is the
+/// PROGRAM and TRACE are files' names. MACHINE is `-1` to `-8`, the built-in machine of that many cores, and any other word is the
 /// name of a machine's file. SEED is `rr`, `serial` or a decimal number below 2^64, and TURNS a decimal number of at most
 /// 1,000,000,000. N is a decimal number below 2^64. Other words are `Usage`.
 ///
 /// Faults come in this order: the words, reading the program, the program, reading the machine, the machine, loading,
-/// writing. The machine's file is opened only where the program has no fault.
+/// reading the trace, the trace, writing. A file is opened only where what comes before it has no fault.
 ///
 /// The condition is that no file was opened before. A fault other than `WriteFault` leaves the sink as it was, and before
 /// that one a front of the output is written. `OutOfMemory` may come in the place of any answer but `Usage`, and never for
@@ -51,6 +53,15 @@ pub fn plain<F: Files, K: Sink>(
             words[1].as_str(),
             words[2].as_str(),
             &run,
+            files,
+            sink,
+        ),
+        Some(Asked::Check(machine)) => check_file(
+            alloc,
+            words[1].as_str(),
+            words[2].as_str(),
+            words[3].as_str(),
+            machine,
             files,
             sink,
         ),

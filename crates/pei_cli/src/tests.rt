@@ -101,6 +101,7 @@ fn serve(
 fn status(served: &Served) -> u8 {
     match &served.result {
         Ok(PlainEnd::Sched { status, .. }) => *status,
+        Ok(PlainEnd::Checked { status, .. }) => *status,
         Ok(PlainEnd::Text { status }) => *status,
         Err(fault) => status_of(fault),
     }
@@ -388,7 +389,7 @@ const REFUSED: [(&str, &str, u8, &str); 28] = [
     ("sched p m +1 1000", "", 2, USAGE),
     ("sched p -1 18446744073709551616 1000", "", 2, USAGE),
     ("sched p -1 rr 1000000001", "", 2, USAGE),
-    ("check p -1 t", "", 2, USAGE),
+    ("view p -1 t 0", "", 2, USAGE),
 ];
 
 #[test]

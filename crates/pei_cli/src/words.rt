@@ -3,9 +3,9 @@
 ghost use Rattle.std.specs.Prelude.{◌≡◌, ◌+◌, ◌<◌, [], Some, None, length, get_or, IfSome, option_map, if◌then◌else◌, true};
 ghost use Rattle.pei_types.specs.declared.machines.MachineSpec.{MachineSpec};
 ghost use Rattle.sched_run.specs.Choosing.{HasActorsOf};
-ghost use Rattle.pei_cli.specs.Commands.{asm_words, decimal_below, machine_word, output_words, schedule_word, sched_words, gen_words};
+ghost use Rattle.pei_cli.specs.Commands.{asm_words, check_words, decimal_below, machine_word, output_words, schedule_word, sched_words, gen_words};
 ghost use Rattle.pei_cli.specs.Jobs.{Generates, Prints, asked_by, policy_of_word};
-ghost use Rattle.pei_cli.specs.Asking.{Asks, HasBuiltInCores, machine_as, output_as, runs_as};
+ghost use Rattle.pei_cli.specs.Asking.{Asks, HasBuiltInCores, checks_as, machine_as, output_as, runs_as};
 
 use pei_io::Text;
 use sched_run::Policy;
@@ -18,6 +18,8 @@ const MOST_TURNS: u64 = 1_000_000_000;
 pub(crate) enum Asked {
     /// A scheduled run. Its program is the second word, and its machine the third.
     Run(Run),
+    /// The check of a trace, which is the fourth word. Its program is the second, and its machine the third.
+    Check(Machine),
     /// The canonical text of a program, which is the second word.
     Print,
     /// The generated program of a number.
@@ -60,6 +62,7 @@ pub(crate) fn read_words(words: &[Text]) -> Option<Asked>
         "asm" if names_program(rest) => Some(Asked::Print),
         "asm" => None,
         "sched" => Some(Asked::Run(run_words(rest)?)),
+        "check" => Some(Asked::Check(check_words(rest)?)),
         "gen" => Some(Asked::Generate(generate_words(rest)?)),
         _ => None,
     }
@@ -104,6 +107,19 @@ fn output_named(words: &[Text]) -> Option<Output>
         [word] if word.as_str() == "trace" => Some(Output::Trace),
         _ => None,
     }
+}
+
+/// The machine that the words behind `check` name, between a program and a trace.
+fn check_words(words: &[Text]) -> Option<Machine>
+    ensures some { IfSome result (λ k. asked_by (check_words words.now) ≡ Some (checks_as (get_or words.now 0 []) (get_or words.now 1 []) (get_or words.now 2 []) k)) }
+    ensures within { IfSome result (λ k. 2 < length words.now) }
+    ensures cores { IfSome result HasBuiltInCores }
+    ensures none { result ≡ None → asked_by (check_words words.now) ≡ None }
+{
+    let [_, machine, _] = words else {
+        return None;
+    };
+    Some(machine_named(machine.as_str()))
 }
 
 /// The number that the word behind `gen` gives.

@@ -34,6 +34,7 @@ fn exit_status(answer: &Result<PlainEnd, Fault>) -> u8
 {
     match answer {
         Ok(PlainEnd::Sched { status, .. }) => *status,
+        Ok(PlainEnd::Checked { status, .. }) => *status,
         Ok(PlainEnd::Text { status }) => *status,
         Err(fault) => status_of(fault),
     }

@@ -1,8 +1,9 @@
 use Rattle.std.proofs.Common.{rules, ◌≡◌, ℕ, List, [], get_or, Option, Some, IfSome, subst, sym}
-use Rattle.pei_cli.specs.Asking.{runs_as}
+use Rattle.pei_cli.specs.Asking.{checks_as, runs_as}
 use Rattle.pei_cli.specs.Jobs.{Asked}
 use Rattle.pei_cli.specs.Serving.{Serves}
 use Rattle.pei_cli.specs.Uses.{file_use, sink_use}
+use Rattle.pei_cli.specs.declared.words.Machine.{Machine}
 use Rattle.pei_cli.specs.declared.words.Run.{Run}
 use Rattle.pei_cli.proofs.serving.plain.Goals as goal
 
@@ -19,3 +20,18 @@ returns-in-Some-Run-clause-serves g c =
     in of_run _ c.args.words.now c.as_str.result.now c.as_str-in-Some-Run.result.now c.in-Some-Run.run'
     (λ a. Serves a (file_use g.F.Files.held g.F.Files.left g.F.Files.name g.F.Files.taken g.F.Files.faults c.args.files.now c.run_file.new.files) (sink_use g.K.Sink.written g.K.Sink.faults c.args.sink.now c.run_file.new.sink) c.run_file.result)
     asks.0 (search rules) (search rules) c.run_file.ensures.serves
+
+-- the same of a check
+of_check : (asked : Option Asked) (words : List (List ℕ)) (program machine trace : List ℕ) (k : Machine) (P : Asked → Type 0) → asked ≡ Some (checks_as (get_or words 1 []) (get_or words 2 []) (get_or words 3 []) k) → get_or words 1 [] ≡ program → get_or words 2 [] ≡ machine → get_or words 3 [] ≡ trace → P (checks_as program machine trace k) → IfSome asked P
+of_check asked words program machine trace k P same first second third fact =
+    subst (λ (o : Option Asked). IfSome o P) (sym same)
+    (subst (λ (name : List ℕ). P (checks_as name (get_or words 2 []) (get_or words 3 []) k)) (sym first)
+    (subst (λ (name : List ℕ). P (checks_as program name (get_or words 3 []) k)) (sym second)
+    (subst (λ (name : List ℕ). P (checks_as program machine name k)) (sym third) fact)))
+
+pub returns-in-Some-Check-clause-serves : goal.returns-in-Some-Check-clause-serves
+returns-in-Some-Check-clause-serves g c =
+    let asks = rw c.in-Some-Check.field-0-is at c.in-Some-Check.ensures
+    in of_check _ c.args.words.now _ _ _ c.in-Some-Check.machine
+    (λ a. Serves a (file_use g.F.Files.held g.F.Files.left g.F.Files.name g.F.Files.taken g.F.Files.faults c.args.files.now c.check_file.new.files) (sink_use g.K.Sink.written g.K.Sink.faults c.args.sink.now c.check_file.new.sink) c.check_file.result)
+    asks.0 (search rules) (search rules) (search rules) c.check_file.ensures.serves
