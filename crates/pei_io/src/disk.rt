@@ -10,8 +10,8 @@ use crate::text::Text;
 use std::io::Read;
 use std::{fs, io, rt};
 
-/// Real files, over std. They tell their names, how many bytes were read of each, and how often std failed on each,
-/// whatever the cause; they tell no bytes.
+/// Real files, over std. They tell their names, how many bytes were read of each, how often std failed on each, whatever
+/// the cause, and how often they were read; they tell no bytes.
 #[derive(Drop)]
 pub struct DiskFiles<'a, R: rt::Files> {
     runtime: &'a R,
@@ -19,6 +19,7 @@ pub struct DiskFiles<'a, R: rt::Files> {
     machine: Option<R::File>,
     trace: Option<R::File>,
     tallies: Tallies,
+    reads: u64,
 }
 
 impl<'a, R: rt::Files> DiskFiles<'a, R> {
@@ -37,6 +38,7 @@ impl<'a, R: rt::Files> DiskFiles<'a, R> {
             machine: None,
             trace: None,
             tallies: Tallies::new(),
+            reads: 0,
         }
     }
 }
@@ -68,6 +70,8 @@ impl<'a, R: rt::Files> Files for DiskFiles<'a, R> {
 
     ghost faults = { λ s. faults_told s.tallies };
 
+    ghost reads = { λ s. s.reads };
+
     fn open_file(&mut self, which: Which, file: Text) -> Result<(), Failed>
         requires { name_told self.old.tallies which ≡ None }
         ensures named { name_told self.new.tallies which ≡ Some file }
@@ -77,6 +81,7 @@ impl<'a, R: rt::Files> Files for DiskFiles<'a, R> {
         ensures faultless { OnOk result (faults_told self.new.tallies which ≡ faults_told self.old.tallies which) }
         ensures taken { taken_told self.new.tallies which ≡ taken_told self.old.tallies which }
         ensures rising { faults_told self.old.tallies which ≤ faults_told self.new.tallies which }
+        ensures reads { self.new.reads ≡ self.old.reads }
         ensures others { LeavesOthers (λ s. none_held s.tallies) (λ s. none_left s.tallies) (λ s. name_told s.tallies) (λ s. taken_told s.tallies) (λ s. faults_told s.tallies) which self.old self.new }
     {
         let opened = fs::open(self.runtime, file.as_str());
@@ -105,8 +110,10 @@ impl<'a, R: rt::Files> Files for DiskFiles<'a, R> {
         ensures faultless { OnOk result (faults_told self.new.tallies which ≡ faults_told self.old.tallies which) }
         ensures named { name_told self.new.tallies which ≡ name_told self.old.tallies which }
         ensures rising { faults_told self.old.tallies which ≤ faults_told self.new.tallies which }
+        ensures reads { self.new.reads ≡ counted (self.old.reads + 1) }
         ensures others { LeavesOthers (λ s. none_held s.tallies) (λ s. none_left s.tallies) (λ s. name_told s.tallies) (λ s. taken_told s.tallies) (λ s. faults_told s.tallies) which self.old self.new }
     {
+        self.reads = self.reads.saturating_add(1);
         if !self.tallies.is_open(which) {
             return Ok(0);
         }

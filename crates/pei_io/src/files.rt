@@ -35,6 +35,9 @@ pub trait Files {
     /// How often a call on the file failed, up to 2^64 - 1.
     ghost faults: { Self → Which → ℕ };
 
+    /// How often `read` was called, over all files, up to 2^64 - 1.
+    ghost reads: { Self → ℕ };
+
     /// Opens a file that was not opened before. A failure is counted.
     fn open_file(&mut self, which: Which, file: Text) -> Result<(), Failed>
         requires { name self.old which ≡ None }
@@ -43,6 +46,7 @@ pub trait Files {
         ensures failed { OnErr result (Rose (faults self.old which) (faults self.new which)) }
         ensures taken { taken self.new which ≡ taken self.old which }
         ensures rising { faults self.old which ≤ faults self.new which }
+        ensures reads { reads self.new ≡ reads self.old }
         ensures others { LeavesOthers held left name taken faults which self.old self.new };
 
     /// Puts bytes from the front of what is left at the front of `buf`, and tells how many. An `Ok` of 0 for a buffer
@@ -58,6 +62,7 @@ pub trait Files {
         ensures failed { OnErr result (Rose (faults self.old which) (faults self.new which)) }
         ensures named { name self.new which ≡ name self.old which }
         ensures rising { faults self.old which ≤ faults self.new which }
+        ensures reads { reads self.new ≡ counted (reads self.old + 1) }
         ensures others { LeavesOthers held left name taken faults which self.old self.new };
 
     /// Of a file that was not opened nothing was read.

@@ -77,6 +77,8 @@ impl Files for MemFiles {
 
     ghost faults = { faults_in };
 
+    ghost reads = { λ s. s.reads };
+
     fn open_file(&mut self, which: Which, file: Text) -> Result<(), Failed>
         requires { name_in self.old which ≡ None }
         ensures opens { IsOk result }

@@ -1,6 +1,6 @@
 //! Reading a whole file, up to a limit.
 
-ghost use Rattle.std.specs.Prelude.{◌≡◌, ◌≢◌, ◌≤◌, None, Some, Err};
+ghost use Rattle.std.specs.Prelude.{◌≡◌, ◌≢◌, ◌≤◌, ◌+◌, None, Some, Err};
 ghost use Rattle.pei_io.specs.Outside.{LeavesOthers};
 ghost use Rattle.pei_io.specs.Reading.{EndsReading};
 ghost use Rattle.pei_io.specs.declared.reading.ReadEnd.TheVariants as ends;
@@ -22,7 +22,8 @@ pub enum ReadEnd {
     OutOfMemory,
 }
 
-/// Opens a file that was not opened before, and reads it to its end. `limit` is the most bytes that it may have.
+/// Opens a file that was not opened before, and reads it to its end, by at most `limit + 1` reads. `limit` is the most bytes
+/// that it may have.
 pub fn read_limited<F: Files>(
     alloc: Global,
     files: &mut F,
@@ -34,6 +35,7 @@ pub fn read_limited<F: Files>(
     ensures end { EndsReading limit (F.held files.old which name.now) (F.taken files.new which) (F.faults files.old which) (F.faults files.new which) result }
     ensures named { result ≢ Err ReadEnd.OutOfMemory → F.name files.new which ≡ Some name.now }
     ensures rising { F.faults files.old which ≤ F.faults files.new which }
+    ensures reads { F.reads files.new ≤ F.reads files.old + (limit + 1) }
     ensures others { LeavesOthers F.held F.left F.name F.taken F.faults which files.old files.new }
 {
     let Ok(file) = Text::make(alloc, name) else {
@@ -56,6 +58,7 @@ fn read_opened<F: Files>(
     ensures end { EndsReading limit (F.left files.old which) (F.taken files.new which) (F.faults files.old which) (F.faults files.new which) result }
     ensures named { F.name files.new which ≡ F.name files.old which }
     ensures rising { F.faults files.old which ≤ F.faults files.new which }
+    ensures reads { F.reads files.new ≤ F.reads files.old + (limit + 1) }
     ensures others { LeavesOthers F.held F.left F.name F.taken F.faults which files.old files.new }
 {
     let mut bytes = Vec::new(alloc);

@@ -46,6 +46,8 @@ impl Files for SureFiles {
 
     ghost faults = { λ s which. 0 };
 
+    ghost reads = { λ s. s.files.reads };
+
     fn open_file(&mut self, which: Which, file: Text) -> Result<(), Failed> {
         self.files.open_file(which, file)
     }

@@ -10,6 +10,7 @@ invariant-loop-count g l = record {
   taken : g.F.Files.taken l.files l.which ≡ length l.bytes.items;
   read : ReadSoFar l.bytes.items (g.F.Files.left l.initial.files l.which) (g.F.Files.left l.files l.which);
   named : g.F.Files.name l.files l.which ≡ g.F.Files.name l.initial.files l.which;
+  reads : g.F.Files.reads l.files + l.room ≤ g.F.Files.reads l.initial.files + (l.limit + 1);
   rising : g.F.Files.faults l.initial.files l.which ≤ g.F.Files.faults l.files l.which;
   others : LeavesOthers g.F.Files.held g.F.Files.left g.F.Files.name g.F.Files.taken g.F.Files.faults l.which l.initial.files l.files;
 }
