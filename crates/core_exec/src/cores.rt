@@ -45,13 +45,6 @@ impl Core {
         }
     }
 
-    /// The core's number.
-    pub fn id(&self) -> CoreId
-        ensures { result ≡ self.now.state.core }
-    {
-        self.state.id()
-    }
-
     /// Executes instructions up to the next call, and tells what the core does next.
     ///
     /// It stops where `config.fuel` instructions were retired, where the program counter is behind the last instruction, at an

@@ -82,13 +82,6 @@ impl State {
         self.pc
     }
 
-    /// The core's number.
-    pub fn id(&self) -> CoreId
-        ensures { result ≡ self.now.core }
-    {
-        self.core
-    }
-
     /// What the core waits for, if a register of its instruction waits.
     fn busy(&self, instr: Instr) -> Option<CoreNext>
         requires { HasRegisters instr }

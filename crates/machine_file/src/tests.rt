@@ -5,7 +5,7 @@ use pei_types::{MachineSpec, Policy3};
 use std::test::Fail;
 
 /// Files, each with the kind of its fault and the key that the fault names, if it names one.
-const FAULTS: [(&[u8], &str, &str); 50] = [
+const FAULTS: [(&[u8], &str, &str); 56] = [
     (b"cores = ", "BadToml", ""),
     (b"cores = 1\ncores = 1", "BadToml", ""),
     (
@@ -18,6 +18,12 @@ const FAULTS: [(&[u8], &str, &str); 50] = [
     (b"x = 1\ny", "BadToml", ""),
     (b"cores = 1\nblocks = 64\nx = 1", "UnknownKey", "x"),
     (b"zz = 1\nb = 2", "UnknownKey", "b"),
+    (b"b = 1\nba = 1\nZ = 1", "UnknownKey", "Z"),
+    (b"b = 1\nZ = 1\nba = 1", "UnknownKey", "Z"),
+    (b"ba = 1\nb = 1\nZ = 1", "UnknownKey", "Z"),
+    (b"ba = 1\nZ = 1\nb = 1", "UnknownKey", "Z"),
+    (b"Z = 1\nb = 1\nba = 1", "UnknownKey", "Z"),
+    (b"Z = 1\nba = 1\nb = 1", "UnknownKey", "Z"),
     (b"cores = 9\nblocks = 64\nCores = 1", "UnknownKey", "Cores"),
     (b"a.b = 1\ncores = 1\nblocks = 64", "UnknownKey", "a"),
     (b"'a.b' = 1\ncores = 1\nblocks = 64", "UnknownKey", "a.b"),

@@ -18,7 +18,6 @@ mod reading;
 mod unknown;
 mod verdicts;
 
-pub use asm_statements::Mnemonic;
 pub use assembling::assemble;
 pub use faults::{AsmFault, AsmKind};
 pub use printing::print;

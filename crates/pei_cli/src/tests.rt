@@ -734,23 +734,38 @@ fn operations_traps_and_asks_are_reported(rt: HostRuntime) -> Result<(), Fail> {
     Ok(())
 }
 
-/// One core makes 64 increments.
-#[test]
-fn a_generated_program_runs(rt: HostRuntime) -> Result<(), Fail> {
-    let program = serve(rt.alloc(), "gen 0", b"", b"", 5000, 0, 0)?;
-    let served = serve(
-        rt.alloc(),
+/// A generated program, the words that run it, its machine, and what it writes. One core makes 64 increments, and four cores
+/// make 512 each.
+const GENERATED: [(&str, &str, &str, &str); 2] = [
+    (
+        "gen 0",
         "sched p -1 rr 1000000",
-        program.sink.bytes(),
-        b"",
-        5000,
-        0,
-        0,
-    )?;
-    assert_eq!(rt;
-        served.sink.bytes(),
-        b"core 0 halt\nsum 65536 4096 64\nstatus 0\n".as_slice()
-    );
-    assert_eq!(rt; status(&served), 0);
+        "",
+        "core 0 halt\nsum 65536 4096 64\nstatus 0\n",
+    ),
+    (
+        "gen 7",
+        "sched p m rr 100000000",
+        "cores = 4\nblocks = 65536\n",
+        "core 0 halt\ncore 1 halt\ncore 2 halt\ncore 3 halt\nsum 65536 4096 2048\nstatus 0\n",
+    ),
+];
+
+#[test]
+fn generated_programs_run(rt: HostRuntime) -> Result<(), Fail> {
+    for (generate, run, machine, want) in GENERATED {
+        let program = serve(rt.alloc(), generate, b"", b"", 5000, 0, 0)?;
+        let served = serve(
+            rt.alloc(),
+            run,
+            program.sink.bytes(),
+            machine.as_bytes(),
+            5000,
+            0,
+            0,
+        )?;
+        assert_eq!(rt; served.sink.bytes(), want.as_bytes(), "{generate}");
+        assert_eq!(rt; status(&served), 0, "{generate}");
+    }
     Ok(())
 }

@@ -271,7 +271,6 @@ fn waits_for_replies(rt: HostRuntime) -> Result<(), Fail> {
     program.push_instr(Instr::Out { ra: 4 })?;
     let image = Image::make(alloc, BLOCKS)?;
     let mut core = Core::make(&image, CoreId(5));
-    assert_eq!(rt; core.id(), CoreId(5));
     assert_eq!(rt;
         answered(&mut core, &program, issue(0)),
         pei(Op::Probe, 0, [0; 4])
