@@ -84,7 +84,7 @@ pub(crate) fn laws()
 impl Bus {
     /// The caches of a machine, without a line, above the memory of an image, which has the machine's number of blocks.
     ///
-    /// `OutOfMemory` comes only where the memory for them could not be had.
+    /// `OutOfMemory` says that the memory for them could not be had; no clause ties it to that.
     pub fn make(alloc: Global, spec: &MachineSpec, image: &Image) -> Result<Bus, OutOfMemory>
         requires { length image.now.words ≡ 8 * spec.now.blocks }
         ensures { IfOk result (λ h. h ≡ empty_hierarchy spec.now image.now) }

@@ -44,7 +44,7 @@ impl Model for Journal {
 impl Journal {
     /// An empty journal with room for `events` events.
     ///
-    /// `OutOfMemory` comes only where the memory for them could not be had.
+    /// `OutOfMemory` says that the memory for them could not be had; no clause ties it to that.
     pub fn make(alloc: Global, events: u32) -> Result<Journal, OutOfMemory>
         ensures { IfOk result (λ j. j ≡ record { events = []; room = events }) }
     {

@@ -43,7 +43,7 @@ impl Model for Lists {
 impl Lists {
     /// So many nodes, 0 to `nodes` - 1, none of them in a list, and so many empty lists, 0 to `lists` - 1.
     ///
-    /// `OutOfMemory` comes only where the memory for them could not be had.
+    /// `OutOfMemory` says that the memory for them could not be had; no clause ties it to that.
     pub fn make(alloc: Global, nodes: u32, lists: u32) -> Result<Lists, OutOfMemory>
         ensures empty { IfOk result (λ l. l ≡ record { nodes = nodes; lists = replicate lists [] }) }
         ensures well_formed { IfOk result IsWellFormed }

@@ -70,7 +70,7 @@ fn partial_tag(tags: &SetLists, b: BlockNo) -> u32
 impl Monitor {
     /// A monitor of so many sets of so many ways, without an entry: 1 to 1,024 sets of 1 to 16 ways.
     ///
-    /// `OutOfMemory` comes only where the memory for it could not be had.
+    /// `OutOfMemory` says that the memory for it could not be had; no clause ties it to that.
     pub fn make(alloc: Global, sets: u32, ways: u32) -> Result<Monitor, OutOfMemory>
         requires sets { IsWithin 1 1024 sets }
         requires ways { IsWithin 1 16 ways }

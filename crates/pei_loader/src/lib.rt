@@ -23,9 +23,9 @@ use std::alloc::Global;
 ///
 /// A fault is the program's first: its lines of initial words come first, in their order, each for the alignment of
 /// its address and then word by word for the end of memory and for an earlier line with a word at that address; then
-/// its asks, in their order; then the entries of the cores, from core 0 on. `OutOfMemory` comes only where the memory
-/// for the image, or for a mark at each of its words, could not be had; it says nothing of the program. The marks are
-/// given back. The time grows with the size of memory plus that of the program.
+/// its asks, in their order; then the entries of the cores, from core 0 on. `OutOfMemory` says that the memory for
+/// the image, or for a mark at each of its words, could not be had; no clause ties it to that, and it says nothing of the
+/// program. The marks are given back. The time grows with the size of memory plus that of the program.
 pub fn load(alloc: Global, program: &Program, spec: &MachineSpec) -> Result<Image, LoadFault>
     ensures ok { IfOk result
         (λ image. IsImageOf program.now spec.now image × (load_refusal program.now spec.now ≡ None)) }

@@ -33,7 +33,7 @@ impl Model for PlainDirectory {
 impl PlainDirectory {
     /// A directory of `entries` entries that nobody holds and nobody waits for.
     ///
-    /// `OutOfMemory` comes only where the memory for them could not be had.
+    /// `OutOfMemory` says that the memory for them could not be had; no clause ties it to that.
     pub fn make(alloc: Global, entries: u32) -> Result<PlainDirectory, OutOfMemory>
         ensures { IfOk result (λ d. d ≡ replicate entries no_claims) }
     {

@@ -28,7 +28,8 @@ pub struct SchedEnd {
 ///
 /// The run stops earlier where each core has ended, the journal is full, or the list of the policy's actors is at its
 /// end. The conditions are that the image has a word for each word of memory, and that a list has only actors of this
-/// machine. `OutOfMemory` comes only where the memory for the machine could not be had, before the first turn.
+/// machine. `OutOfMemory` says that the memory for the machine could not be had, before the first turn; no clause ties it to
+/// that.
 pub fn run_schedule(
     alloc: Global,
     program: &Program,

@@ -66,7 +66,7 @@ fn scan(keys: &[Option<u32>], first: u32, ways: u32, wanted: Option<u32>) -> Opt
 impl SetLists {
     /// So many sets of so many ways, all slots free: 1 to 1,024 sets of 1 to 16 ways.
     ///
-    /// `OutOfMemory` comes only where the memory for them could not be had.
+    /// `OutOfMemory` says that the memory for them could not be had; no clause ties it to that.
     pub fn make(alloc: Global, sets: u32, ways: u32) -> Result<SetLists, OutOfMemory>
         requires sets { IsWithin 1 1024 sets }
         requires ways { IsWithin 1 16 ways }

@@ -63,7 +63,7 @@ fn blocks_in(alloc: Global, image: &Image) -> Result<Vec<Block>, OutOfMemory>
 impl Vaults {
     /// So many vaults, 1 to 16, with the memory of an image.
     ///
-    /// `OutOfMemory` comes only where the memory for it could not be had.
+    /// `OutOfMemory` says that the memory for it could not be had; no clause ties it to that.
     pub fn make(alloc: Global, image: &Image, vaults: u32) -> Result<Vaults, OutOfMemory>
         requires { IsWithin 1 16 vaults }
         ensures { IfOk result (λ v. v ≡ record { vaults = vaults; blocks = blocks_of image.now }) }
