@@ -1,6 +1,5 @@
 //! Litmus programs, with the outcomes that docs/LITMUS.md tells. The programs are those of examples/litmus/.
 
-use super::*;
 use crate::tests::{serve, status};
 use std::test::Fail;
 
