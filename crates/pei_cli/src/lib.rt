@@ -23,4 +23,6 @@ pub use trace_check::Verdict;
 #[cfg(test)]
 mod check_tests;
 #[cfg(test)]
+mod litmus_tests;
+#[cfg(test)]
 mod tests;

@@ -60,15 +60,15 @@ const RAISED_APART: &[u8] = b"core 0 halt\ncore 1 halt\nmem 4096 1\nmem 4288 1\n
 
 /// What a command came to, what it wrote, and the line of its fault.
 #[derive(Drop)]
-struct Served {
-    result: Result<PlainEnd, Fault>,
-    sink: MemSink,
-    line: MemSink,
+pub(crate) struct Served {
+    pub(crate) result: Result<PlainEnd, Fault>,
+    pub(crate) sink: MemSink,
+    pub(crate) line: MemSink,
 }
 
 /// Serves a command, its words split at spaces, over a program and a machine of these bytes. A read and a write move at
 /// most `most` bytes. The read and the write of these numbers, counted from 1, fail.
-fn serve(
+pub(crate) fn serve(
     alloc: Global,
     command: &str,
     program: &[u8],
@@ -98,7 +98,7 @@ fn serve(
 }
 
 /// The status of what a command came to.
-fn status(served: &Served) -> u8 {
+pub(crate) fn status(served: &Served) -> u8 {
     match &served.result {
         Ok(PlainEnd::Sched { status, .. }) => *status,
         Ok(PlainEnd::Checked { status, .. }) => *status,
