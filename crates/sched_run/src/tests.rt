@@ -5,12 +5,14 @@ ghost use Rattle.std.specs.List.{All};
 ghost use Rattle.pei_types.specs.Calls.{is_actor_of};
 ghost use Rattle.pei_types.specs.Limits.{IsWithin};
 ghost use Rattle.pei_types.specs.Program.{HasRegisters};
+ghost use Rattle.inflight.specs.OnTheWay.{IsLaneOf};
 ghost use Rattle.sched_run.specs.Choosing.{HasActorsOf};
 
 use crate::{Actors, Policy, SchedEnd, run_schedule};
+use fabric::{Fabric, Turn};
 use pei_types::{
-    Actor, BlockNo, CoreId, EndKind, Event, EventKind, Image, Instr, Lane, MachineSpec, Op,
-    Operands, OutOfMemory, PeiId, Place, Policy3, Program, Reply,
+    Actor, BlockNo, Call, CoreId, EndKind, Event, EventKind, Image, Instr, Lane, MachineSpec, Op,
+    Operands, OutOfMemory, PeiId, Place, Policy3, Program, Reply, StallCause,
 };
 use std::alloc::Global;
 use std::test::Fail;
@@ -421,6 +423,139 @@ fn runs_by_lists(rt: HostRuntime) -> Result<(), Fail> {
     let policy = turns_of(rt.alloc(), &memory, list)?;
     let stored = outcome(rt.alloc(), &memory, &STORED, 3, &policy, 1000)?;
     assert_eq!(rt; stored, (14, 17, both, 6));
+    Ok(())
+}
+
+/// Two cores with two lanes each, above a vault whose queue has room for two, where memory executes every PEI.
+#[tactic(auto, unfolding(pei_types::specs::Limits::log_two))]
+fn crowded_machine() -> MachineSpec
+    ensures cores { result.cores ≡ 2 }
+    ensures blocks { result.blocks ≡ 128 }
+    ensures buffer { result.buffer ≡ 2 }
+{
+    MachineSpec {
+        cores: 2,
+        blocks: 128,
+        l1_sets: 1,
+        l1_ways: 1,
+        llc_sets: 1,
+        llc_ways: 1,
+        vaults: 1,
+        queue: 2,
+        directory: 64,
+        buffer: 2,
+        banks: 1,
+        fuel: 100,
+        events: 64,
+        placement: Policy3::Memory,
+    }
+}
+
+/// Each core counts in two blocks of its own, and waits; core 1 begins at instruction 3.
+const CROWDED: [Instr; 6] = [
+    Instr::Pinc { ra: 0, n: COUNTER },
+    Instr::Pinc { ra: 0, n: 4160 },
+    Instr::Pfence,
+    Instr::Pinc { ra: 0, n: 4224 },
+    Instr::Pinc { ra: 0, n: 4288 },
+    Instr::Pfence,
+];
+
+/// What a lane comes to behind turns of a list.
+fn lane_after(
+    alloc: Global,
+    spec: &MachineSpec,
+    steps: &[(u8, u8, u32)],
+    core: CoreId,
+    lane: Lane,
+) -> Result<Turn, OutOfMemory>
+    requires actors { All (λ step. (step.0 < spec.now.cores) × (step.1 ≤ spec.now.buffer)) steps.now }
+    requires lane { IsLaneOf spec.now core lane }
+{
+    let policy = turns_of(alloc, spec, steps)?;
+    let mut end = run(alloc, spec, &CROWDED, 3, &policy, 1000)?;
+    Ok(end.fabric.lane(core, lane))
+}
+
+/// Why lanes wait: one without a PEI; the first and the second of a core whose PEIs have not entered; the second of a core
+/// whose PEIs are both in the vault's queue; and one of another core whose PEI is to go into that queue too.
+#[test]
+fn lanes_tell_why_they_wait(rt: HostRuntime) -> Result<(), Fail> {
+    let spec = crowded_machine();
+    let issued = &[(1, 0, 2)];
+    let sealed = &[(0, 0, 2), (0, 1, 5), (0, 2, 5), (1, 0, 1), (1, 1, 4)];
+    let reached = [
+        lane_after(rt.alloc(), &spec, &[], CoreId(1), Lane(2))?,
+        lane_after(rt.alloc(), &spec, issued, CoreId(1), Lane(1))?,
+        lane_after(rt.alloc(), &spec, issued, CoreId(1), Lane(2))?,
+        lane_after(rt.alloc(), &spec, sealed, CoreId(0), Lane(2))?,
+        lane_after(rt.alloc(), &spec, sealed, CoreId(1), Lane(1))?,
+    ];
+    let seq = 0;
+    let (first, head) = (
+        PeiId {
+            core: CoreId(1),
+            seq,
+        },
+        PeiId {
+            core: CoreId(0),
+            seq,
+        },
+    );
+    assert_eq!(rt;
+        reached,
+        [
+            Turn::Stalled(StallCause::Idle),
+            Turn::Stalled(StallCause::NeedsGrant),
+            Turn::Stalled(StallCause::NotOldest { pei: first }),
+            Turn::Stalled(StallCause::NotHead { pei: head }),
+            Turn::Stalled(StallCause::VaultFull { vault: 0 }),
+        ]
+    );
+    Ok(())
+}
+
+/// Why a program waits: for a free entry of its core's buffer, for its end, and, behind its fence, for its own PEI. The
+/// causes of lanes and these three are all.
+#[test]
+fn programs_tell_why_they_wait(rt: HostRuntime) -> Result<(), Fail> {
+    let spec = small_machine(1, 1, 1, Policy3::Memory);
+    let image = Image::make(rt.alloc(), 128)?;
+    let mut fabric = Fabric::make(rt.alloc(), &spec, &image)?;
+    let (core, seq) = (CoreId(0), 0);
+    let pei = PeiId { core, seq };
+    let call = Call::Pei {
+        op: Op::Inc { word: 0 },
+        block: BlockNo(64),
+        operands: Operands([0; 4]),
+    };
+    let Turn::Did(
+        Event {
+            kind: EventKind::Issue { .. },
+            ..
+        },
+    ) = fabric.call(core, &call)
+    else {
+        assert!(rt; false);
+        return Ok(());
+    };
+    let Turn::Stalled(full) = fabric.call(core, &call) else {
+        assert!(rt; false);
+        return Ok(());
+    };
+    let kind = EndKind::Halt;
+    let ending = fabric.call(core, &Call::End { kind });
+    fabric.call(core, &Call::Fence);
+    let waiting = fabric.call(core, &Call::Fence);
+    let reached = [Turn::Stalled(full), ending, waiting];
+    assert_eq!(rt;
+        reached,
+        [
+            Turn::Stalled(StallCause::BufferFull),
+            Turn::Stalled(StallCause::Draining { pei }),
+            Turn::Stalled(StallCause::FenceWaits { pei }),
+        ]
+    );
     Ok(())
 }
 
