@@ -1,5 +1,5 @@
 -- The history that the logs of the banks make, in the order of their stamps.
-use Rattle.std.proofs.Common.{◌≡◌, ◌⊎◌, inl, inr, ℕ, zero, suc, ◌+◌, ◌<◌, ◌≤◌, Bool, true, false, nat_lt, List, [], ◌∷◌, ◌++◌, map, length, Some, refl, sym, ◌∙◌, ap, subst, arith, eqb-true, eq-eqb, ltb-true, ltb-false}
+use Rattle.std.proofs.Common.{◌≡◌, ◌⊎◌, inl, inr, ℕ, zero, suc, ◌+◌, ◌<◌, ◌≤◌, Bool, true, false, nat_lt, List, [], ◌∷◌, ◌++◌, map, length, Some, None, option_map, refl, sym, ◌∙◌, ap, subst, arith, eqb-true, eq-eqb, ltb-true, ltb-false}
 use Rattle.std.specs.Prelude.{if◌then◌else◌}
 use Rattle.std.specs.List.{cons_option}
 use Rattle.std.proofs.lemmas.List.{append_assoc, append-nil, map-append, length_push, length-map}
@@ -19,10 +19,10 @@ use Rattle.pei_types.proofs.Tests.{same_self}
 use Rattle.history_laws.specs.Members.{In}
 use Rattle.bank_laws.specs.Banks.{Placed, EachPlaced, journal_of, log_of, is_made_in}
 use Rattle.bank_laws.specs.Rows.{IsRowIn, GoesInBank}
-use Rattle.bank_laws.specs.Logs.{event_with, history_below, merged, events_below, Rises, AreStamped, AreOwn, IsFront, GoesBySeen, HandsBack, CoresHandBack}
+use Rattle.bank_laws.specs.Logs.{event_with, in_first, in_next, NextInLogs, history_below, merged, events_below, Rises, AreStamped, AreOwn, IsFront, GoesBySeen, HandsBack, CoresHandBack}
 use Rattle.bank_laws.proofs.Histories.{journal_of-push, log_of-own, log_of-other, placed_push, placed_none}
 use Rattle.bank_laws.proofs.Lists.{in_front, in_back, each_in}
-use Rattle.bank_laws.proofs.Stamps.{same_item, events_more, events_same, events_at_start, events_seen, events_all, events_before_last, event_found, Lacks}
+use Rattle.bank_laws.proofs.Stamps.{same_item, events_more, events_same, events_at_start, events_seen, events_all, events_before_last, event_found, find_lacks, Lacks}
 
 -- the next event of the history: it stands in one log
 pub record NextIs (n : ℕ) (logs : List (List Stamped)) : Type 0 where
@@ -116,6 +116,39 @@ journal_around last n logs less x =
       ap journal_of (r.1 ∙ ap (λ xs. xs ++ r.0) x.more ∙ append_assoc (history_below n logs) (placed ∷ []) r.0)
           ∙ map-append (λ (y : Placed). y.event) (history_below n logs) (placed ∷ r.0),
     )
+
+-- no log has an event with the stamp
+event_lacks : (n : ℕ) (logs : List (List Stamped)) → ((k : ℕ) → Lacks n (list_at logs k)) → event_with n logs ≡ None
+event_lacks n [] lacks = refl
+event_lacks n (log ∷ logs) lacks =
+    ap (λ o. in_first o (option_map in_next (event_with n logs))) (find_lacks n log (lacks 0))
+    ∙ ap (option_map in_next) (event_lacks n logs (λ k. lacks (suc k)))
+
+-- one that is found is below the last
+pub found_below : (last n : ℕ) (logs : List (List Stamped)) (x : Placed) → AreStamped last logs → event_with n logs ≡ Some x → n < last
+found_below last n logs x h e = by (nat_lt n last) refl
+  where
+    by : (b : Bool) → nat_lt n last ≡ b → n < last
+    by true less = ltb-true n last less
+    by false more = absurd (cc (sym e ∙ event_lacks n logs (λ k y i q. let under = h.below k y i in let over = ltb-false n last more in omega (arith, under, over, q))))
+
+pub next_in_logs : (last n : ℕ) (logs : List (List Stamped)) → AreStamped last logs → n < last → NextInLogs last n logs
+next_in_logs last n logs h less =
+    let t = h.there n less
+    in let placed : Placed = record { bank = t.0; event = t.1.event }
+    in let found : event_with n logs ≡ Some placed = subst (λ i. event_with i logs ≡ Some placed) t.3 (event_found logs t.0 t.1 h.rising (λ j y i e. h.once j t.0 y t.1 i t.2 e) t.2)
+    in let more : history_below (suc n) logs ≡ history_below n logs ++ placed ∷ [] = ap (λ o. history_below n logs ++ cons_option o []) found
+    in let around = journal_around last n logs less (record { bank = t.0; item = t.1; there = t.2; stamp = t.3; more = more })
+    in record {
+      placed = placed;
+      item = t.1;
+      there = t.2;
+      event = refl;
+      found = found;
+      more = ap journal_of more ∙ journal_of-push (history_below n logs) placed;
+      rest = around.0;
+      whole = around.1;
+    }
 
 -- ---- what cores hand back
 

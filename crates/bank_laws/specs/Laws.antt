@@ -17,7 +17,7 @@ use Rattle.pei_types.specs.declared.events.EventKind.{EventKind}
 use Rattle.pei_types.specs.declared.machines.MachineSpec.{MachineSpec}
 use Rattle.pei_types.specs.Blocks.{same_core}
 use Rattle.pei_types.specs.Calls.{is_actor_of}
-use Rattle.pei_types.specs.Coherence.{State, state_after, is_phase, is_i, letter_of, look_of, fence_of}
+use Rattle.pei_types.specs.Coherence.{State, next_state, state_after, is_phase, is_i, letter_of, look_of, fence_of}
 use Rattle.pei_types.specs.Core.{Calls, events_of}
 use Rattle.pei_types.specs.Ends.{IsComplete, end_in}
 use Rattle.pei_types.specs.Exclusion.{EntersAlone}
@@ -45,7 +45,7 @@ use Rattle.bank_laws.specs.Parts.{SameInBank, SameForCore, is_issued_in}
 use Rattle.bank_laws.specs.Own.{next_peis, next_issues}
 use Rattle.bank_laws.specs.Local.{IsAccess, IsOwnCall, SameOn, IsLocal, IsOfCore, FindsAlike}
 use Rattle.bank_laws.specs.Rows.{IsCallOf, IsRowIn, IsRowOfBank, GoesInBank, MadeRightly, IsGuardedWidely, GoesInSome, bank_look}
-use Rattle.bank_laws.specs.Logs.{history_below, merged, Rises, AreStamped, AreOwn, IsFront, HandsBack, CoresHandBack}
+use Rattle.bank_laws.specs.Logs.{NextInLogs, event_with, history_below, merged, Rises, AreStamped, AreOwn, IsFront, HandsBack, CoresHandBack}
 use Rattle.bank_laws.specs.Across.{HappensBelow, LeavesFirst, ExcludeByStamps, FollowInLogs, FenceByStamps}
 use Rattle.bank_laws.specs.Kept.{BankInOrder, FitsInBank}
 use Rattle.bank_laws.specs.Merge.{IsWhole, SameCaches, AreIssueStamps, StandByIssue, LastFenceBegan, HoldSame}
@@ -107,6 +107,13 @@ pub record LogsMakeLegal : Type 0 where
   pub seen : (p : Listing) (m : MachineSpec) (image : Contents) (mine : List Stamped) (seen more : List (List Stamped)) → ((k : ℕ) → IsFront (list_at seen k) (list_at more k)) → ((k : ℕ) → Rises (list_at more k)) → HandsBack p m image mine seen → HandsBack p m image mine more
   pub next : (p : Listing) (m : MachineSpec) (image : Contents) (mine : List Stamped) (seen : List (List Stamped)) (k : ℕ) (log : List Stamped) (x : Stamped) → Rises (mine ++ x ∷ []) → Rises (list_at seen k) → list_at seen k ≡ log ++ x ∷ [] → IsRowIn p m image k (map (λ y. y.event) log) (map (λ y. y.event) mine) x.event → HandsBack p m image mine seen → HandsBack p m image (mine ++ x ∷ []) seen
 
+-- The journal of all banks, event by event: below the last stamp the next event stands in one log, and no log has an event with
+-- a greater stamp. A history begins with each shorter one.
+pub record LogsGoOn : Type 0 where
+  pub next : (n i : ℕ) (logs : List (List Stamped)) → AreStamped n logs → i < n → NextInLogs n i logs
+  pub found : (n i : ℕ) (logs : List (List Stamped)) (x : Placed) → AreStamped n logs → event_with i logs ≡ Some x → i < n
+  pub front : (i n : ℕ) (logs : List (List Stamped)) → i ≤ n → (rest : List Placed) × (history_below n logs ≡ history_below i logs ++ rest)
+
 -- Banks merge into one machine. The state after the journal of all logs has of each bank what the bank's log leaves, and flat
 -- memory too; and no more is needed, since two states with as many lists that are the same in every bank have the same
 -- caches, monitors and queues, and PEIs that are the same in every bank and stand by the stamps of their issues are the same.
@@ -159,6 +166,7 @@ pub record BanksGoOn : Type 0 where
 -- A core's own events alone tell what it knows of itself, event by event, whatever the caches are: each event does to its PEIs and
 -- to its count of issues what `next_peis` and `next_issues` say, and its fence is on from a begin to an end.
 pub record CoresGoOn : Type 0 where
+  pub step : (m : MachineSpec) (s : State) (a : Actor) (kind : EventKind) → (next_state m s a kind).peis ≡ next_peis a kind s.peis
   pub peis : (m : MachineSpec) (own : List Event) (e : Event) → (state_after m (own ++ e ∷ [])).peis ≡ next_peis e.actor e.kind (state_after m own).peis
   pub issues : (m : MachineSpec) (own : List Event) (e : Event) → (state_after m (own ++ e ∷ [])).issues ≡ next_issues e.actor e.kind (state_after m own).issues
   pub fence : (m : MachineSpec) (own : List Event) (c : CoreId) → c.0 < m.cores → is_some (bank_look m (state_after m own) c).fence ≡ fence_is_on c own

@@ -54,6 +54,17 @@ pub record AreStamped (n : ℕ) (logs : List (List Stamped)) : Type 0 where
   pub there : (i : ℕ) → i < n → (k : ℕ) × (x : Stamped) × In x (list_at logs k) × (x.stamp ≡ i)
   pub once : (j k : ℕ) (x y : Stamped) → In x (list_at logs j) → In y (list_at logs k) → x.stamp ≡ y.stamp → j ≡ k
 
+-- The event with stamp i, which stands in a log: the journal of all banks goes on with it, and is so around it.
+pub record NextInLogs (n i : ℕ) (logs : List (List Stamped)) : Type 0 where
+  pub placed : Placed
+  pub item : Stamped
+  pub there : In item (list_at logs placed.bank)
+  pub event : item.event ≡ placed.event
+  pub found : event_with i logs ≡ Some placed
+  pub more : merged (suc i) logs ≡ merged i logs ++ placed.event ∷ []
+  pub rest : List Event
+  pub whole : merged n logs ≡ merged i logs ++ placed.event ∷ rest
+
 -- ---- a core
 
 -- the events of a core in all logs, in the order of their stamps

@@ -16,3 +16,14 @@ mod Acting
 mod Entering
 mod Stepping
 mod Turned
+mod Again
+mod Uniting
+mod Splits
+mod Likeness
+mod Stampings
+mod Finding
+mod BankGoing
+mod PartMoves
+mod BankRows
+mod BankSteps
+mod BankStarting

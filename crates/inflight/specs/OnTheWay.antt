@@ -1,6 +1,7 @@
 -- What the table of PEIs on their way is seen as.
-use Rattle.std.specs.Prelude.{ℕ, suc, ◌+◌, ◌-◌, ◌*◌, ◌<◌, ◌≤◌, List, [], ◌∷◌, ◌++◌, replicate, drop, find, Option, Some, None, option_map, slice_get, slice_index, slice_set, ◌≡◌}
+use Rattle.std.specs.Prelude.{ℕ, suc, ◌+◌, ◌-◌, ◌*◌, ◌<◌, ◌≤◌, List, [], ◌∷◌, ◌++◌, replicate, drop, find, Option, Some, None, option_map, slice_get, slice_index, slice_set, ◌≡◌, Bool, ◌&&◌, nat_le, nat_lt, if◌then◌else◌}
 use Rattle.std.specs.Option.{option_map_or}
+use Rattle.pei_types.specs.Operation.{is_writer}
 use Rattle.pei_types.specs.declared.identifiers.Block.{Block}
 use Rattle.pei_types.specs.declared.identifiers.BlockNo.{BlockNo}
 use Rattle.pei_types.specs.declared.identifiers.CoreId.{CoreId}
@@ -68,6 +69,35 @@ after_issuing s c l o b operands =
           ∷ [];
       issues = change_at s.issues c.0 suc;
     }
+
+-- the counts of issues, where a core's is above this number
+abbrev pub counting : List ℕ → CoreId → ℕ → List ℕ
+counting issues c n = if nat_le (slice_index issues c.0) n then slice_set issues c.0 (n + 1) else issues
+
+-- the state after the issue of a PEI under a number that is given
+abbrev pub after_issuing_as : State → CoreId → Lane → ℕ → Op → BlockNo → Operands → State
+after_issuing_as s c l n o b operands =
+    record s {
+      peis =
+          s.peis
+          ++ record {
+            id = record { core = c; seq = n };
+            lane = l;
+            op = o;
+            block = b;
+            operands = operands;
+            phase = phase.Issued;
+          }
+          ∷ [];
+      issues = counting s.issues c n;
+    }
+
+-- the place of a lane in a list of numbers, and whether a PEI writes and its lane's number is below a bound
+abbrev pub number_place : CoreId → Lane → ℕ
+number_place c l = 4 * c.0 + l.0
+
+abbrev pub is_writer_below : List ℕ → ℕ → PeiLook → Bool
+is_writer_below numbers bound p = is_writer p.op && nat_lt (slice_index numbers (number_place p.id.core p.lane)) bound
 
 -- the state with the PEI of a lane in another phase, and without the PEI
 abbrev pub lane_in_phase : State → CoreId → Lane → Phase → State

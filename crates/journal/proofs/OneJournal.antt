@@ -1,10 +1,9 @@
 -- No two events have the same line, and no two journals the same trace.
-use Rattle.std.proofs.Common.{◌≡◌, ℕ, ◌^◌, ◌<◌, ◌≤◌, ◌/◌, ◌%◌, ◌+◌, ◌*◌, ◌&&◌, ◌||◌, ◌==◌, true, false, not, true≢false, if◌then◌else◌, List, [], ◌∷◌, ◌++◌, Option, Some, codes, decimal, drop, flat_map, get_or, length, map, nat_lt, nat_le, refl, subst, sym, ◌∙◌, ap, lit≤, arith, eqb-true}
+use Rattle.std.proofs.Common.{◌≡◌, ℕ, ◌^◌, ◌<◌, ◌≤◌, ◌/◌, ◌%◌, ◌+◌, ◌*◌, ◌&&◌, ◌==◌, true, not, true≢false, if◌then◌else◌, List, [], ◌∷◌, ◌++◌, codes, decimal, drop, flat_map, get_or, length, map, nat_lt, nat_le, refl, subst, sym, ◌∙◌, ap, lit≤, arith}
 use Rattle.std.specs.List.{list_all}
 use Rattle.std.proofs.lemmas.Bool.{and_parts, ltb-true, leb-true, lt-ltb}
 use Rattle.std.proofs.lemmas.Fmt.{decimal_injective}
 use Rattle.std.proofs.Math.Seq.{drop-append_seam}
-use Rattle.pei_types.specs.declared.identifiers.Actor.{Actor}
 use Rattle.pei_types.specs.declared.identifiers.BlockNo.{BlockNo}
 use Rattle.pei_types.specs.declared.identifiers.CoreId.{CoreId}
 use Rattle.pei_types.specs.declared.identifiers.Lane.{Lane}

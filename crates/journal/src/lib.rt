@@ -2,7 +2,9 @@
 #![tactic(auto)]
 
 ghost use Rattle.journal.specs.Counted.{stats_of};
-ghost use Rattle.std.specs.Prelude.{◌≡◌, [], ◌∷◌, ◌++◌, ◌-◌, ◌<◌, ◌≤◌, ◌↔◌, length, Some, slice_get, IsTrue, IfOk};
+ghost use Rattle.journal.specs.Recorded.{pushed};
+ghost use Rattle.std.specs.List.{AllByRecursion, AllPairs};
+ghost use Rattle.std.specs.Prelude.{◌≡◌, ◌≢◌, [], ◌∷◌, ◌++◌, ◌-◌, ◌<◌, ◌≤◌, ◌↔◌, length, Some, slice_get, IsTrue, IfOk, IfSome, IfNone};
 
 mod event_lines;
 mod event_words;
@@ -21,12 +23,14 @@ pub use stats::Stats;
 use std::alloc::Global;
 use std::marker::Model;
 
-/// The events of a run, the first in front, with room for a number of them that is set when it is made.
+/// The events of a run, the first in front, with room for a number of them that is set when it is made. Each has a stamp: its
+/// place, or, in the journal of one bank, its place in the journal of all banks.
 ///
 /// All memory is taken when it is made: only `make` can want memory.
 #[derive(Drop)]
 pub struct Journal {
     events: Vec<Event>,
+    stamps: Vec<u32>,
     room: u32,
 }
 
@@ -36,9 +40,9 @@ impl Model for Journal {
 
     ghost Value = { Recorded };
 
-    ghost view = { λ j. record { events = j.events.items; room = j.room } };
+    ghost view = { λ j. record { events = j.events.items; stamps = j.stamps.items; room = j.room } };
 
-    ghost invariant = { λ j. IsWithinRoom (vec_len j.events) j.room (vec_capacity j.events) };
+    ghost invariant = { λ j. IsWithinRoom (vec_len j.events) (vec_len j.stamps) j.room (vec_capacity j.events) (vec_capacity j.stamps) };
 }
 
 impl Journal {
@@ -46,23 +50,33 @@ impl Journal {
     ///
     /// `OutOfMemory` says that the memory for them could not be had; no clause ties it to that.
     pub fn make(alloc: Global, events: u32) -> Result<Journal, OutOfMemory>
-        ensures { IfOk result (λ j. j ≡ record { events = []; room = events }) }
+        ensures { IfOk result (λ j. j ≡ record { events = []; stamps = []; room = events }) }
     {
-        match Vec::with_capacity(alloc, events as usize) {
-            Ok(reserved) => Ok(Journal {
-                events: reserved,
-                room: events,
-            }),
-            Err(_) => Err(OutOfMemory),
-        }
+        let reserved = Vec::with_capacity(alloc, events as usize).map_err(|_| OutOfMemory)?;
+        let stamps = Vec::with_capacity(alloc, events as usize).map_err(|_| OutOfMemory)?;
+        Ok(Journal {
+            events: reserved,
+            stamps,
+            room: events,
+        })
     }
 
-    /// Adds an event at the end. The condition is that there is room, as `spare` tells.
+    /// Adds an event at the end, with its place as its stamp. The condition is that there is room, as `spare` tells.
     pub fn push(&mut self, event: Event)
         requires { length self.old.events < self.old.room }
-        ensures { self.new ≡ record self.old { events = self.old.events ++ event ∷ [] } }
+        ensures { self.new ≡ pushed self.old (length self.old.events) event }
+    {
+        let stamp = self.len();
+        self.push_stamped(stamp, event);
+    }
+
+    /// Adds an event at the end, with this stamp. The condition is that there is room, as `spare` tells.
+    pub fn push_stamped(&mut self, stamp: u32, event: Event)
+        requires { length self.old.events < self.old.room }
+        ensures { self.new ≡ pushed self.old stamp event }
     {
         self.events.push_reserved(event);
+        self.stamps.push_reserved(stamp);
     }
 
     /// How many more events there is room for.
@@ -94,6 +108,26 @@ impl Journal {
         ensures { slice_get self.now.events i ≡ Some result }
     {
         self.events[i as usize]
+    }
+
+    /// The stamp of the event at place `i`, counted from 0. The condition is that `i` is below `len`.
+    pub fn stamp(&self, i: u32) -> u32
+        requires { i < length self.now.events }
+        ensures { slice_get self.now.stamps i ≡ Some result }
+    {
+        self.stamps[i as usize]
+    }
+
+    /// The place of the event with this stamp, or `None` where no event has it. The condition is that the stamps rise.
+    pub fn place_of(&self, stamp: u32) -> Option<u32>
+        requires { AllPairs (λ x y. x < y) self.now.stamps }
+        ensures some { IfSome result (λ i. slice_get self.now.stamps i ≡ Some stamp) }
+        ensures none { IfNone result (AllByRecursion (λ x. x ≢ stamp) self.now.stamps) }
+    {
+        match self.stamps.binary_search(&stamp) {
+            Ok(place) => Some(place as u32),
+            Err(_) => None,
+        }
     }
 
     /// How many events of each kind it has, counted in one pass.

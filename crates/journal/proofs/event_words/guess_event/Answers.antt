@@ -1,12 +1,9 @@
-use Rattle.std.proofs.Common.{◌≡◌, ℕ, List, [], ◌∷◌, ◌++◌, ◌&&◌, ◌<◌, ◌≤◌, decimal, refl, sym, ◌∙◌, ap, lit≤, nat_lt, nat_le, Option, Some, None, arith}
+use Rattle.std.proofs.Common.{◌≡◌, ℕ, ◌&&◌, ◌<◌, ◌≤◌, decimal, refl, sym, ◌∙◌, ap, lit≤, nat_lt, nat_le, Option, Some, None, arith}
 use Rattle.std.proofs.lemmas.Bool.{and_parts, ltb-true, leb-true, lt-ltb}
-use Rattle.std.proofs.lemmas.List.{append_assoc}
 use Rattle.pei_types.specs.declared.events.Event.{Event}
 use Rattle.pei_types.specs.declared.events.EventKind.{EventKind}
-use Rattle.pei_types.specs.Texts.{actor_word, event_line, event_words}
 use Rattle.journal.specs.Traces.{kind_in_ranges}
-use Rattle.journal.specs.Words.{args_of, name_of, words_then}
-use Rattle.journal.proofs.Leading.{number_leads, small_is_word, line_then}
+use Rattle.journal.proofs.Leading.{number_leads, small_is_word}
 use Rattle.journal.proofs.EventLines.{event_then}
 use Rattle.journal.proofs.event_words.guess_event.Goals as goal
 

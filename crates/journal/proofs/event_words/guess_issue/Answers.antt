@@ -1,11 +1,8 @@
-use Rattle.std.proofs.Common.{◌≡◌, ℕ, List, ◌∷◌, ◌++◌, ◌&&◌, ◌<◌, ◌≤◌, ◌^◌, ◌/◌, ◌==◌, true, codes, decimal, map, refl, sym, ◌∙◌, ap, lit≤, nat_lt, nat_le, length, Option, Some, None, arith, eqb-true}
-use Rattle.std.specs.List.{list_all}
-use Rattle.std.proofs.lemmas.Bool.{and_parts, ltb-true, leb-true, lt-ltb}
+use Rattle.std.proofs.Common.{◌≡◌, ℕ, List, ◌∷◌, ◌++◌, ◌<◌, ◌^◌, ◌/◌, codes, decimal, map, refl, sym, ◌∙◌, ap, lit≤, length, Option, Some, None, arith}
+use Rattle.std.proofs.lemmas.Bool.{ltb-true, lt-ltb}
 use Rattle.pei_types.specs.declared.identifiers.BlockNo.{BlockNo}
-use Rattle.pei_types.specs.declared.identifiers.Lane.{Lane}
 use Rattle.pei_types.specs.declared.events.EventKind.{EventKind}
 use Rattle.pei_types.specs.declared.events.EventKind.TheVariants as event
-use Rattle.journal.specs.Traces.{is_word, is_index, kind_in_ranges, op_in_ranges, operands_in_ranges}
 use Rattle.journal.specs.Words.{first_word, words_then, Leads}
 use Rattle.journal.proofs.Leading.{number_leads, index_is_word, small_is_word, word_leads, four_words}
 use Rattle.pei_types.specs.declared.operations.Op.{Op}
