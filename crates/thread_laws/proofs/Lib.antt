@@ -1,0 +1,9 @@
+pub mod Lists
+pub mod Grows
+pub mod Tracks
+pub mod Following
+pub mod Entering
+pub mod Rows
+pub mod BankLogs
+pub mod Lanes
+pub mod Actives

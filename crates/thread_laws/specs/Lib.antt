@@ -1,0 +1,3 @@
+pub mod BankLogs
+pub mod Entered
+pub mod Laws

@@ -1,0 +1,36 @@
+//! The laws, each the contract of a function with an empty body, but for the laws that it rests on.
+
+ghost use Rattle.thread_laws.specs.Laws.{LogsTrack, BanksFollow, EntriesAreFree, ActivesGoOn};
+
+use bank_laws::laws as banks;
+use shared_table as table;
+
+/// In a log whose events are each its PEI's next, the state after it and the log's own history name the same PEIs.
+pub fn logs_track()
+    ensures { LogsTrack }
+{
+    banks::cores_go_on();
+}
+
+/// Each event of a bank's row is its PEI's next behind the bank's own log.
+pub fn banks_follow()
+    ensures { BanksFollow }
+{
+    banks::cores_go_on();
+}
+
+/// A PEI whose entry its lane holds, and in whose way no active PEI of the bank is, finds the entry free.
+pub fn entries_are_free()
+    ensures { EntriesAreFree }
+{
+    banks::cores_go_on();
+    table::actives_are_entered();
+}
+
+/// The active PEIs of a bank's log change by enters and leaves alone, and those of other cores by none of a core's events.
+pub fn actives_go_on()
+    ensures { ActivesGoOn }
+{
+    banks::cores_go_on();
+    table::actives_are_entered();
+}
