@@ -7,3 +7,5 @@ pub mod Rows
 pub mod BankLogs
 pub mod Lanes
 pub mod Actives
+pub mod Own
+pub mod OwnRows

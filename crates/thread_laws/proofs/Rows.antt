@@ -41,11 +41,11 @@ use Rattle.thread_laws.proofs.Tracks.{Tracks}
 
 -- ---- messages
 
-either : (P : EventKind → Type 0) (b : Bool) (x y : EventKind) → P x → P y → P (if b then x else y)
+pub either : (P : EventKind → Type 0) (b : Bool) (x y : EventKind) → P x → P y → P (if b then x else y)
 either P true x y h g = h
 either P false x y h g = g
 
-abbrev IsMessage : EventKind → Type 0
+abbrev pub IsMessage : EventKind → Type 0
 IsMessage kind = side_of kind ≡ Messages
 
 module _ (m : MachineSpec) (s : State) where
@@ -73,7 +73,7 @@ module _ (m : MachineSpec) (s : State) where
   make_room_sends c b modify (Some line) = refl
   make_room_sends c b modify None = grant_sends c b modify
 
-  want_sends : (c : CoreId) (b : BlockNo) (modify : Bool) → IsMessage (want m s c b modify)
+  pub want_sends : (c : CoreId) (b : BlockNo) (modify : Bool) → IsMessage (want m s c b modify)
   want_sends c b modify =
       either IsMessage (is_absent (mark_of m s b)) (bring_in m s b (victim m.llc_ways (llc_set m s b))) (make_room m s c b modify (l1_victim m s c b))
       (bring_in_sends b (victim m.llc_ways (llc_set m s b))) (make_room_sends c b modify (l1_victim m s c b))
@@ -126,15 +126,15 @@ call_no_peis look m s content c (call.End kind) = by look.first_unfinished
 -- ---- the rows of a PEI
 
 -- an event of the PEI of this number, which may come next in this phase; or a message
-abbrev IsEventOf : ℕ → Phase → Side → EventKind → Type 0
+abbrev pub IsEventOf : ℕ → Phase → Side → EventKind → Type 0
 IsEventOf n ph (Peis seq) kind = (n ≡ seq) × (follows_phase ph kind ≡ true)
 IsEventOf n ph Programs kind = ⊥
 IsEventOf n ph Messages kind = ⊤
 
-abbrev KindIsOf : ℕ → Phase → EventKind → Type 0
+abbrev pub KindIsOf : ℕ → Phase → EventKind → Type 0
 KindIsOf n ph kind = IsEventOf n ph (side_of kind) kind
 
-abbrev TurnIsOf : ℕ → Phase → Turn → Type 0
+abbrev pub TurnIsOf : ℕ → Phase → Turn → Type 0
 TurnIsOf n ph (Makes kind) = KindIsOf n ph kind
 TurnIsOf n ph (Stalls cause) = ⊤
 
@@ -179,7 +179,7 @@ head_is_of content p (Some head) = by (same_pei head p.id)
     by true = (refl, refl)
     by false = tt
 
-pei_is_of : (look : CoreLook) (m : MachineSpec) (s : State) (content : BlockNo → Block) (granted : Bool) (p : PeiLook) (ph : Phase) → TurnIsOf p.id.seq ph (pei_row_by look m s content granted p ph)
+pub pei_is_of : (look : CoreLook) (m : MachineSpec) (s : State) (content : BlockNo → Block) (granted : Bool) (p : PeiLook) (ph : Phase) → TurnIsOf p.id.seq ph (pei_row_by look m s content granted p ph)
 pei_is_of look m s content granted p phase.Issued = enter_is_of p granted look.first_unentered
 pei_is_of look m s content granted p phase.Entered = (refl, refl)
 pei_is_of look m s content granted p phase.HostPlaced =

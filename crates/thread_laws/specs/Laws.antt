@@ -1,6 +1,7 @@
 -- The laws of this crate.
-use Rattle.std.specs.Prelude.{◌≡◌, ◌≢◌, ℕ, true, false, List, [], ◌∷◌, ◌++◌, map, filter, Some, None}
+use Rattle.std.specs.Prelude.{◌≡◌, ◌≢◌, ℕ, ◌<◌, true, false, List, [], ◌∷◌, ◌++◌, map, filter, Some, None, slice_index}
 use Rattle.std.specs.List.{list_any, AllByRecursion}
+use Rattle.pei_types.specs.declared.stamps.Stamped.{Stamped}
 use Rattle.pei_types.specs.declared.identifiers.CoreId.{CoreId}
 use Rattle.pei_types.specs.declared.identifiers.Lane.{Lane}
 use Rattle.pei_types.specs.declared.identifiers.PeiId.{PeiId}
@@ -11,18 +12,20 @@ use Rattle.pei_types.specs.declared.machines.MachineSpec.{MachineSpec}
 use Rattle.pei_types.specs.Blocks.{same_core, same_lane, same_pei, entry_of}
 use Rattle.pei_types.specs.Coherence.{state_after, look_of, look_in, entry_is_taken, pei_id}
 use Rattle.pei_types.specs.Exclusion.{conflicts}
-use Rattle.pei_types.specs.History.{Pei, pei_of, unfinished_peis, active_peis, entered_peis, phase_of, has_left}
+use Rattle.pei_types.specs.History.{Pei, issued_peis, pei_issued_by, pei_of, unfinished_peis, active_peis, entered_peis, phase_of, has_left}
 use Rattle.pei_types.specs.Legal.{EachEvent}
 use Rattle.pei_types.specs.Operation.{mode_of}
-use Rattle.pei_types.specs.Program.{Contents}
+use Rattle.pei_types.specs.Program.{Listing, Contents}
 use Rattle.pei_types.specs.Recency.{without}
 use Rattle.history_laws.specs.Entering.{LanesApart}
 use Rattle.history_laws.specs.Members.{In}
 use Rattle.history_laws.specs.Tracking.{as_issued, is_past_issue, IsTracked}
 use Rattle.coherence_laws.specs.Holdings.{Holdings}
+use Rattle.coherence_laws.specs.Sets.{EachPair}
 use Rattle.bank_laws.specs.Across.{FollowsItsPei}
 use Rattle.bank_laws.specs.Kept.{BankInOrder, FitsInBank}
-use Rattle.bank_laws.specs.Rows.{IsRowOfBank}
+use Rattle.bank_laws.specs.Logs.{Rises, HandsBack}
+use Rattle.bank_laws.specs.Rows.{IsRowIn, IsRowOfBank}
 use Rattle.shared_table.specs.declared.claims.Claim.{Claim}
 use Rattle.shared_table.specs.declared.claims.Claim.TheVariants.{Held}
 use Rattle.shared_table.specs.Actives.{active_pei, active_in}
@@ -32,6 +35,7 @@ use Rattle.shared_table.specs.Own.{Has, IsIdle}
 use Rattle.shared_table.specs.Rule.{IsClear}
 use Rattle.thread_laws.specs.BankLogs.{IsBankLog}
 use Rattle.thread_laws.specs.Entered.{next_entered}
+use Rattle.thread_laws.specs.OwnEvents.{IssuesNext}
 
 -- In a log each of whose events is its PEI's next, and whose issues have names of their own, the PEIs on their way after it are those
 -- that it issued and that have not left, in the order of their issue, each as it was issued and as its events left it; whatever
@@ -73,3 +77,13 @@ pub record ActivesGoOn : Type 0 where
   pub keeps : (entries : ℕ) (log : List Event) (e : Event) → EachEvent Continues log → Follows log e → ((seq : ℕ) → e.kind ≢ event.Enter seq) → ((seq : ℕ) → e.kind ≢ event.Leave seq) → active_in entries (log ++ e ∷ []) ≡ active_in entries log
   pub others : (entries : ℕ) (log : List Event) (e : Event) (d : ℕ) → EachEvent Continues log → Follows log e → d ≢ e.actor.core.0 → active_of d (active_in entries (log ++ e ∷ [])) ≡ active_of d (active_in entries log)
   pub idle : (entries : ℕ) (m : MachineSpec) (image : Contents) (k : ℕ) (log : List Event) (h : Holdings) (e : Event) (seq : ℕ) → IsBankLog m image k log → BankInOrder m image log h → Follows log e → e.kind ≡ event.Leave seq → IsIdle (active_of e.actor.core.0 (active_in entries (log ++ e ∷ []))) e.actor.lane.0
+
+-- A core's own rows issue with the core's next number and into its lowest free lane. So each PEI that was issued has a number below
+-- the core's count of issues, no two have one name, the next issue has a new one, and no two PEIs of a core are in one lane.
+pub record OwnIssuesAreNew : Type 0 where
+  pub row : (p : Listing) (m : MachineSpec) (image : Contents) (k : ℕ) (log own : List Event) (e : Event) → IsRowIn p m image k log own e → IssuesNext m own e
+  pub handed : (p : Listing) (m : MachineSpec) (image : Contents) (mine : List Stamped) (seen : List (List Stamped)) → Rises mine → HandsBack p m image mine seen → EachEvent (IssuesNext m) (map (λ x. x.event) mine)
+  pub below : (m : MachineSpec) (own : List Event) (p : Pei) → EachEvent (IssuesNext m) own → In p (issued_peis own) → p.id.seq < slice_index (state_after m own).issues p.id.core.0
+  pub names : (m : MachineSpec) (own : List Event) → EachEvent (IssuesNext m) own → EachPair (λ p q. same_pei p.id q.id ≡ false) (issued_peis own)
+  pub fresh : (m : MachineSpec) (own : List Event) (e : Event) (p q : Pei) → EachEvent (IssuesNext m) own → IssuesNext m own e → pei_issued_by e.actor e.kind ≡ Some p → In q (issued_peis own) → q.id ≢ p.id
+  pub lanes : (m : MachineSpec) (own : List Event) → EachEvent (IssuesNext m) own → LanesApart (state_after m own)

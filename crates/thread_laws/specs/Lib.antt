@@ -1,3 +1,4 @@
 pub mod BankLogs
 pub mod Entered
+pub mod OwnEvents
 pub mod Laws

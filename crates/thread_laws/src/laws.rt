@@ -1,6 +1,6 @@
 //! The laws, each the contract of a function with an empty body, but for the laws that it rests on.
 
-ghost use Rattle.thread_laws.specs.Laws.{LogsTrack, BanksFollow, EntriesAreFree, ActivesGoOn};
+ghost use Rattle.thread_laws.specs.Laws.{LogsTrack, BanksFollow, EntriesAreFree, ActivesGoOn, OwnIssuesAreNew};
 
 use bank_laws::laws as banks;
 use shared_table as table;
@@ -33,4 +33,12 @@ pub fn actives_go_on()
 {
     banks::cores_go_on();
     table::actives_are_entered();
+}
+
+/// The PEIs that a core's own events issue have numbers below the core's count, names of their own, and lanes of their own.
+pub fn own_issues_are_new()
+    ensures { OwnIssuesAreNew }
+{
+    banks::cores_go_on();
+    banks::banks_merge();
 }
