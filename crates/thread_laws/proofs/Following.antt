@@ -64,3 +64,6 @@ tracked_anywhere log each = log_induction Continues (λ past. (ls : List PeiLook
   where
     step : (before : List Event) (e : Event) → Continues before e → (ls : List PeiLook) × Tracks before ls → (ls : List PeiLook) × Tracks (before ++ e ∷ []) ls
     step before e h g = (next_peis e.actor e.kind g.0, tracks_step before g.0 e.actor e.kind h.0 h.1 g.1)
+
+pub every_log : (G : List Event → Type 0) → G [] → ((before : List Event) (e : Event) → G before → G (before ++ e ∷ [])) → (log : List Event) → G log
+every_log G start step log = log_induction (λ before e. Unit {0}) G start (λ before e _ g. step before e g) log (λ before rest e same. tt)

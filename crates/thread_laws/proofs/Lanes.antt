@@ -36,7 +36,7 @@ use Rattle.thread_laws.proofs.Entering.{past_entered, entered_past}
 use Rattle.thread_laws.proofs.Tracks.{Tracks}
 
 -- two of a list are one, or one stands before the other
-paired : {A : Type 0} (R : A → A → Type 0) (xs : List A) (x y : A) → EachPair R xs → In x xs → In y xs → (x ≡ y) ⊎ (R x y ⊎ R y x)
+pub paired : {A : Type 0} (R : A → A → Type 0) (xs : List A) (x y : A) → EachPair R xs → In x xs → In y xs → (x ≡ y) ⊎ (R x y ⊎ R y x)
 paired R [] x y h i j = absurd i
 paired R (z ∷ zs) x y h (inl e) (inl f) = inl (e ∙ sym f)
 paired R (z ∷ zs) x y h (inl e) (inr j) = inr (inl (subst (λ w. R w y) (sym e) (each_of (R z) zs y h.0 j)))

@@ -9,3 +9,4 @@ pub mod Lanes
 pub mod Actives
 pub mod Own
 pub mod OwnRows
+pub mod Meeting

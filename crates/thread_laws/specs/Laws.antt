@@ -1,5 +1,5 @@
 -- The laws of this crate.
-use Rattle.std.specs.Prelude.{◌≡◌, ◌≢◌, ℕ, ◌<◌, true, false, List, [], ◌∷◌, ◌++◌, map, filter, Some, None, slice_index}
+use Rattle.std.specs.Prelude.{◌≡◌, ◌≢◌, ℕ, ◌<◌, true, false, ◌||◌, List, [], ◌∷◌, ◌++◌, map, filter, Some, None, is_none, slice_index}
 use Rattle.std.specs.List.{list_any, AllByRecursion}
 use Rattle.pei_types.specs.declared.stamps.Stamped.{Stamped}
 use Rattle.pei_types.specs.declared.identifiers.CoreId.{CoreId}
@@ -10,9 +10,10 @@ use Rattle.pei_types.specs.declared.events.Event.{Event}
 use Rattle.pei_types.specs.declared.events.EventKind.TheVariants as event
 use Rattle.pei_types.specs.declared.machines.MachineSpec.{MachineSpec}
 use Rattle.pei_types.specs.Blocks.{same_core, same_lane, same_pei, entry_of}
-use Rattle.pei_types.specs.Coherence.{state_after, look_of, look_in, entry_is_taken, pei_id}
+use Rattle.pei_types.specs.Coherence.{state_after, look_of, look_in, entry_is_taken, fence_of, pei_id}
+use Rattle.pei_types.specs.Core.{events_of}
 use Rattle.pei_types.specs.Exclusion.{conflicts}
-use Rattle.pei_types.specs.History.{Pei, issued_peis, pei_issued_by, pei_of, unfinished_peis, active_peis, entered_peis, phase_of, has_left}
+use Rattle.pei_types.specs.History.{Pei, issued_peis, pei_issued_by, pei_of, unfinished_peis, active_peis, entered_peis, phase_of, has_left, begins_fence, ends_fence}
 use Rattle.pei_types.specs.Legal.{EachEvent}
 use Rattle.pei_types.specs.Operation.{mode_of}
 use Rattle.pei_types.specs.Program.{Listing, Contents}
@@ -23,6 +24,7 @@ use Rattle.history_laws.specs.Tracking.{as_issued, is_past_issue, IsTracked}
 use Rattle.coherence_laws.specs.Holdings.{Holdings}
 use Rattle.coherence_laws.specs.Sets.{EachPair}
 use Rattle.bank_laws.specs.Across.{FollowsItsPei}
+use Rattle.bank_laws.specs.Banks.{Placed, journal_of, log_of}
 use Rattle.bank_laws.specs.Kept.{BankInOrder, FitsInBank}
 use Rattle.bank_laws.specs.Logs.{Rises, HandsBack}
 use Rattle.bank_laws.specs.Rows.{IsRowIn, IsRowOfBank}
@@ -35,7 +37,7 @@ use Rattle.shared_table.specs.Own.{Has, IsIdle}
 use Rattle.shared_table.specs.Rule.{IsClear}
 use Rattle.thread_laws.specs.BankLogs.{IsBankLog}
 use Rattle.thread_laws.specs.Entered.{next_entered}
-use Rattle.thread_laws.specs.OwnEvents.{IssuesNext}
+use Rattle.thread_laws.specs.OwnEvents.{IssuesNext, KnowsItsPart, look_there, pei_there}
 
 -- In a log each of whose events is its PEI's next, and whose issues have names of their own, the PEIs on their way after it are those
 -- that it issued and that have not left, in the order of their issue, each as it was issued and as its events left it; whatever
@@ -87,3 +89,11 @@ pub record OwnIssuesAreNew : Type 0 where
   pub names : (m : MachineSpec) (own : List Event) → EachEvent (IssuesNext m) own → EachPair (λ p q. same_pei p.id q.id ≡ false) (issued_peis own)
   pub fresh : (m : MachineSpec) (own : List Event) (e : Event) (p q : Pei) → EachEvent (IssuesNext m) own → IssuesNext m own e → pei_issued_by e.actor e.kind ≡ Some p → In q (issued_peis own) → q.id ≢ p.id
   pub lanes : (m : MachineSpec) (own : List Event) → EachEvent (IssuesNext m) own → LanesApart (state_after m own)
+
+-- What a bank has of a core is what the core's own events tell. The PEI that the bank's log leaves in a lane of the core is the one that
+-- the own events leave there, where its block is in this bank, and else none; so is the PEI that the log issued under a name. And
+-- in the bank where all of the core's fences are made, its fence is on exactly where its own events leave it on.
+pub record CoresMeetBanks : Type 0 where
+  pub look : (m : MachineSpec) (k : ℕ) (c : CoreId) (own : List Placed) (log : List Event) (l : Lane) → KnowsItsPart m k c own log → look_in (state_after m log) c l ≡ look_there m k (look_in (state_after m (journal_of own)) c l)
+  pub pei : (m : MachineSpec) (k : ℕ) (c : CoreId) (own : List Placed) (log : List Event) (id : PeiId) → KnowsItsPart m k c own log → same_core id.core c ≡ true → pei_of log id ≡ pei_there m k (pei_of (journal_of own) id)
+  pub fence : (m : MachineSpec) (k : ℕ) (c : CoreId) (own : List Placed) (log : List Event) → c.0 < m.cores → events_of c log ≡ log_of k own → AllByRecursion (λ x. (begins_fence c x.event || ends_fence c x.event) ≡ true → x.bank ≡ k) own → is_none (fence_of (state_after m log) c) ≡ is_none (fence_of (state_after m (journal_of own)) c)

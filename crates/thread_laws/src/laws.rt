@@ -1,6 +1,6 @@
 //! The laws, each the contract of a function with an empty body, but for the laws that it rests on.
 
-ghost use Rattle.thread_laws.specs.Laws.{LogsTrack, BanksFollow, EntriesAreFree, ActivesGoOn, OwnIssuesAreNew};
+ghost use Rattle.thread_laws.specs.Laws.{LogsTrack, BanksFollow, EntriesAreFree, ActivesGoOn, OwnIssuesAreNew, CoresMeetBanks};
 
 use bank_laws::laws as banks;
 use shared_table as table;
@@ -41,4 +41,13 @@ pub fn own_issues_are_new()
 {
     banks::cores_go_on();
     banks::banks_merge();
+}
+
+/// The PEIs and the fence that a bank has of a core are those of the core's own events.
+pub fn cores_meet_banks()
+    ensures { CoresMeetBanks }
+{
+    banks::banks_keep_apart();
+    banks::banks_merge();
+    banks::cores_go_on();
 }

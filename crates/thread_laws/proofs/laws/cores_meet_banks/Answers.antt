@@ -1,0 +1,13 @@
+use Rattle.thread_laws.proofs.Meeting.{look_meets, pei_meets, fence_meets}
+use Rattle.thread_laws.proofs.laws.cores_meet_banks.Goals as goal
+
+pub returns : goal.returns
+returns c =
+    let cores = c.cores_go_on.ensures
+    in let merge = c.banks_merge.ensures
+    in let apart = c.banks_keep_apart.ensures
+    in record {
+      look = λ m k core own log l h. look_meets cores merge apart m k core own log h l;
+      pei = λ m k core own log id h. pei_meets cores merge apart m k core own log h id;
+      fence = fence_meets cores apart;
+    }
