@@ -10,3 +10,4 @@ pub mod Actives
 pub mod Own
 pub mod OwnRows
 pub mod Meeting
+pub mod Standing

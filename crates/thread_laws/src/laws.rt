@@ -48,6 +48,7 @@ pub fn cores_meet_banks()
     ensures { CoresMeetBanks }
 {
     banks::banks_keep_apart();
+    banks::rows_are_local();
     banks::banks_merge();
     banks::cores_go_on();
 }

@@ -1,4 +1,5 @@
 use Rattle.thread_laws.proofs.Meeting.{look_meets, pei_meets, fence_meets}
+use Rattle.thread_laws.proofs.Standing.{own_row_stands, goes_on}
 use Rattle.thread_laws.proofs.laws.cores_meet_banks.Goals as goal
 
 pub returns : goal.returns
@@ -10,4 +11,6 @@ returns c =
       look = λ m k core own log l h. look_meets cores merge apart m k core own log h l;
       pei = λ m k core own log id h. pei_meets cores merge apart m k core own log h id;
       fence = fence_meets cores apart;
+      stands = λ p m image k core own log held e h. own_row_stands cores merge apart c.rows_are_local.ensures p m image k core own log h held e;
+      goes_on = goes_on;
     }
