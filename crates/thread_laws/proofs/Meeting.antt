@@ -1,5 +1,5 @@
 -- The PEIs of a core that a bank has are those of the core's own state on the bank's blocks.
-use Rattle.std.proofs.Common.{◌≡◌, ◌⊎◌, inl, inr, ℕ, ◌<◌, Bool, true, false, not, ◌&&◌, ◌||◌, cond, if◌then◌else◌, List, [], ◌∷◌, ◌++◌, map, filter, find, fold, Option, Some, None, is_none, refl, sym, ◌∙◌, ap, subst, eqb-true, eq-eqb}
+use Rattle.std.proofs.Common.{◌≡◌, ◌⊎◌, inl, inr, ℕ, ◌<◌, Bool, true, false, not, ◌&&◌, ◌||◌, cond, if◌then◌else◌, List, [], ◌∷◌, ◌++◌, map, filter, find, fold, Option, Some, None, is_none, slice_index, refl, sym, ◌∙◌, ap, subst, arith, eqb-true, eq-eqb}
 use Rattle.std.specs.List.{cons_option, AllByRecursion}
 use Rattle.std.specs.Prelude.{is_some}
 use Rattle.std.proofs.lemmas.Bool.{and_parts}
@@ -16,12 +16,13 @@ use Rattle.pei_types.specs.declared.events.EventKind.{EventKind}
 use Rattle.pei_types.specs.declared.events.EventKind.TheVariants as event
 use Rattle.pei_types.specs.declared.machines.MachineSpec.{MachineSpec}
 use Rattle.pei_types.specs.Blocks.{same_core, same_lane, same_pei}
-use Rattle.pei_types.specs.Coherence.{state_after, with_phase, look_in, fence_of, pei_id}
+use Rattle.pei_types.specs.Coherence.{state_after, with_phase, look_in, lanes_of, free_lane, fence_of, pei_id}
 use Rattle.pei_types.specs.Core.{events_of}
 use Rattle.pei_types.specs.History.{Pei, issued_peis, pei_issued_by, pei_of, begins_fence, ends_fence}
 use Rattle.pei_types.proofs.Identities.{same_pei_is, same_pei_sym}
-use Rattle.pei_types.proofs.Lists.{each_append, each_filter, each_map, each_weaker}
+use Rattle.pei_types.proofs.Lists.{each_append, each_filter, each_map, each_weaker, found_passes}
 use Rattle.pei_types.proofs.Pushes.{issued_peis-push}
+use Rattle.pei_types.proofs.Tests.{none_is, same_self}
 use Rattle.history_laws.specs.Members.{In}
 use Rattle.history_laws.specs.Tracking.{as_issued}
 use Rattle.bank_laws.specs.Banks.{Placed, is_made_in, journal_of, log_of}
@@ -33,7 +34,7 @@ use Rattle.thread_laws.specs.OwnEvents.{KnowsItsPart, if_passes, look_there, pei
 use Rattle.thread_laws.proofs.Lists.{each_in, in_filter}
 use Rattle.thread_laws.proofs.Following.{every_log}
 use Rattle.thread_laws.proofs.Lanes.{paired}
-use Rattle.thread_laws.proofs.Own.{have_names, own_lanes}
+use Rattle.thread_laws.proofs.Own.{IsBelow, all_below, have_names, own_lanes}
 
 -- ---- searches
 
@@ -200,6 +201,26 @@ module _ (cores : CoresGoOn) (merge : BanksMerge) (apart : BanksKeepApart) (m : 
           by (inl g) = g
           by (inr (inl g)) = absurd (cc (sym g ∙ same))
           by (inr (inr g)) = absurd (cc (sym g ∙ same_pei_sym q.id p.id ∙ same))
+
+  -- the core's next number names no PEI of the bank
+  pub next_name : pei_of log (record { core = c; seq = slice_index (state_after m (journal_of own)).issues c.0 }) ≡ None
+  next_name = pei_meets (record { core = c; seq = slice_index (state_after m (journal_of own)).issues c.0 }) (same_self c.0) ∙ ap (pei_there m k) (none_found (λ q. same_pei q.id (record { core = c; seq = slice_index (state_after m (journal_of own)).issues c.0 })) (issued_peis (journal_of own)) others)
+    where
+      one : (q : Pei) → IsBelow (state_after m (journal_of own)).issues q → (t : Bool) → same_pei q.id (record { core = c; seq = slice_index (state_after m (journal_of own)).issues c.0 }) ≡ t → same_pei q.id (record { core = c; seq = slice_index (state_after m (journal_of own)).issues c.0 }) ≡ false
+      one q below false e = e
+      one q below true e =
+          let same = same_pei_is q.id (record { core = c; seq = slice_index (state_after m (journal_of own)).issues c.0 }) e
+          in let less : slice_index (state_after m (journal_of own)).issues c.0 < slice_index (state_after m (journal_of own)).issues c.0 = subst (λ (i : PeiId). i.seq < slice_index (state_after m (journal_of own)).issues i.core.0) same below
+          in absurd (omega (arith, less))
+
+      others : AllByRecursion (λ q. same_pei q.id (record { core = c; seq = slice_index (state_after m (journal_of own)).issues c.0 }) ≡ false) (issued_peis (journal_of own))
+      others = each_weaker (IsBelow (state_after m (journal_of own)).issues) (λ q. same_pei q.id (record { core = c; seq = slice_index (state_after m (journal_of own)).issues c.0 }) ≡ false) (λ q below. one q below (same_pei q.id (record { core = c; seq = slice_index (state_after m (journal_of own)).issues c.0 })) refl) (issued_peis (journal_of own)) (all_below cores merge m (journal_of own) h.issues)
+
+  -- the core's lowest free lane has no PEI of the bank
+  pub next_lane : (l : Lane) → free_lane m (state_after m (journal_of own)) c ≡ Some l → look_in (state_after m log) c l ≡ None
+  next_lane l free =
+      look_meets l
+      ∙ ap (look_there m k) (none_is (look_in (state_after m (journal_of own)) c l) (found_passes (λ x. is_none (look_in (state_after m (journal_of own)) c x)) (lanes_of m) l free))
 
 -- ---- fences
 

@@ -29,7 +29,7 @@ use Rattle.pei_types.specs.Legal.{EachEvent}
 use Rattle.pei_types.specs.Next.{Turn, Makes, Stalls, core_look, issue_row, fence_row, draining_or, call_row_by, enter_row, pei_row_by}
 use Rattle.pei_types.specs.Program.{Listing, Contents}
 use Rattle.pei_types.specs.Turns.{is_entering}
-use Rattle.pei_types.proofs.Histories.{each_push}
+use Rattle.pei_types.proofs.Histories.{each_of_from, each_push}
 use Rattle.pei_types.proofs.Identities.{same_core_is, same_pei_sym}
 use Rattle.history_laws.specs.Members.{In}
 use Rattle.history_laws.specs.Tracking.{as_issued}
@@ -217,3 +217,10 @@ goes_on m k c own log longer x h stands issues part =
       issues = subst (EachEvent (IssuesNext m)) (sym (map-append (λ (y : Placed). y.event) own (x ∷ []))) (each_push (IssuesNext m) (journal_of own) x.event h.issues issues);
       part = part;
     }
+
+placed_none : (P : List Placed → Placed → Type 0) → EachPlaced P []
+placed_none P [] back x same = absurd (cc same)
+placed_none P (y ∷ before) back x same = absurd (cc same)
+
+pub knows_at_start : (m : MachineSpec) (k : ℕ) (c : CoreId) (log : List Event) → HasBanks m → events_of c log ≡ [] → KnowsItsPart m k c [] log
+knows_at_start m k c log banks none = record { banks = banks; stands = placed_none (StandsRightly m); issues = each_of_from (IssuesNext m) [] tt; part = none }

@@ -10,7 +10,7 @@ use Rattle.pei_types.specs.declared.events.Event.{Event}
 use Rattle.pei_types.specs.declared.events.EventKind.TheVariants as event
 use Rattle.pei_types.specs.declared.machines.MachineSpec.{MachineSpec}
 use Rattle.pei_types.specs.Blocks.{same_core, same_lane, same_pei, entry_of}
-use Rattle.pei_types.specs.Coherence.{state_after, look_of, look_in, entry_is_taken, fence_of, pei_id}
+use Rattle.pei_types.specs.Coherence.{state_after, look_of, look_in, free_lane, entry_is_taken, fence_of, pei_id}
 use Rattle.pei_types.specs.Core.{events_of}
 use Rattle.pei_types.specs.Exclusion.{conflicts}
 use Rattle.pei_types.specs.History.{Pei, issued_peis, pei_issued_by, pei_of, unfinished_peis, active_peis, entered_peis, phase_of, has_left, begins_fence, ends_fence}
@@ -24,7 +24,7 @@ use Rattle.history_laws.specs.Tracking.{as_issued, is_past_issue, IsTracked}
 use Rattle.coherence_laws.specs.Holdings.{Holdings}
 use Rattle.coherence_laws.specs.Sets.{EachPair}
 use Rattle.bank_laws.specs.Across.{FollowsItsPei}
-use Rattle.bank_laws.specs.Banks.{Placed, StandsRightly, journal_of, log_of}
+use Rattle.bank_laws.specs.Banks.{HasBanks, Placed, StandsRightly, journal_of, log_of}
 use Rattle.bank_laws.specs.Kept.{BankInOrder, FitsInBank}
 use Rattle.bank_laws.specs.Logs.{Rises, HandsBack}
 use Rattle.bank_laws.specs.Rows.{IsRowIn, IsRowOfBank}
@@ -91,12 +91,16 @@ pub record OwnIssuesAreNew : Type 0 where
   pub lanes : (m : MachineSpec) (own : List Event) → EachEvent (IssuesNext m) own → LanesApart (state_after m own)
 
 -- What a bank has of a core is what the core's own events tell. The PEI that the bank's log leaves in a lane of the core is the one that
--- the own events leave there, where its block is in this bank, and else none; so is the PEI that the log issued under a name. And
+-- the own events leave there, where its block is in this bank, and else none; so is the PEI that the log issued under a name. So the
+-- core's lowest free lane has no PEI of the bank, and its next number names none. And
 -- in the bank where all of the core's fences are made, its fence is on exactly where its own events leave it on. The next row of the core
 -- in the bank stands there, and so a core goes on to know its part of each bank.
 pub record CoresMeetBanks : Type 0 where
   pub look : (m : MachineSpec) (k : ℕ) (c : CoreId) (own : List Placed) (log : List Event) (l : Lane) → KnowsItsPart m k c own log → look_in (state_after m log) c l ≡ look_there m k (look_in (state_after m (journal_of own)) c l)
   pub pei : (m : MachineSpec) (k : ℕ) (c : CoreId) (own : List Placed) (log : List Event) (id : PeiId) → KnowsItsPart m k c own log → same_core id.core c ≡ true → pei_of log id ≡ pei_there m k (pei_of (journal_of own) id)
+  pub next_lane : (m : MachineSpec) (k : ℕ) (c : CoreId) (own : List Placed) (log : List Event) (l : Lane) → KnowsItsPart m k c own log → free_lane m (state_after m (journal_of own)) c ≡ Some l → look_in (state_after m log) c l ≡ None
+  pub next_name : (m : MachineSpec) (k : ℕ) (c : CoreId) (own : List Placed) (log : List Event) → KnowsItsPart m k c own log → pei_of log (record { core = c; seq = slice_index (state_after m (journal_of own)).issues c.0 }) ≡ None
   pub fence : (m : MachineSpec) (k : ℕ) (c : CoreId) (own : List Placed) (log : List Event) → c.0 < m.cores → events_of c log ≡ log_of k own → AllByRecursion (λ x. (begins_fence c x.event || ends_fence c x.event) ≡ true → x.bank ≡ k) own → is_none (fence_of (state_after m log) c) ≡ is_none (fence_of (state_after m (journal_of own)) c)
   pub stands : (p : Listing) (m : MachineSpec) (image : Contents) (k : ℕ) (c : CoreId) (own : List Placed) (log : List Event) (h : Holdings) (e : Event) → KnowsItsPart m k c own log → BankInOrder m image log h → same_core e.actor.core c ≡ true → IsRowIn p m image k log (journal_of own) e → StandsRightly m own (record { bank = k; event = e })
+  pub start : (m : MachineSpec) (k : ℕ) (c : CoreId) (log : List Event) → HasBanks m → events_of c log ≡ [] → KnowsItsPart m k c [] log
   pub goes_on : (m : MachineSpec) (k : ℕ) (c : CoreId) (own : List Placed) (log longer : List Event) (x : Placed) → KnowsItsPart m k c own log → StandsRightly m own x → IssuesNext m (journal_of own) x.event → events_of c longer ≡ log_of k (own ++ x ∷ []) → KnowsItsPart m k c (own ++ x ∷ []) longer

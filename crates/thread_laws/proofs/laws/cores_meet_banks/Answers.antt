@@ -1,5 +1,5 @@
-use Rattle.thread_laws.proofs.Meeting.{look_meets, pei_meets, fence_meets}
-use Rattle.thread_laws.proofs.Standing.{own_row_stands, goes_on}
+use Rattle.thread_laws.proofs.Meeting.{look_meets, pei_meets, next_lane, next_name, fence_meets}
+use Rattle.thread_laws.proofs.Standing.{own_row_stands, knows_at_start, goes_on}
 use Rattle.thread_laws.proofs.laws.cores_meet_banks.Goals as goal
 
 pub returns : goal.returns
@@ -10,7 +10,10 @@ returns c =
     in record {
       look = λ m k core own log l h. look_meets cores merge apart m k core own log h l;
       pei = λ m k core own log id h. pei_meets cores merge apart m k core own log h id;
+      next_lane = λ m k core own log l h. next_lane cores merge apart m k core own log h l;
+      next_name = λ m k core own log h. next_name cores merge apart m k core own log h;
       fence = fence_meets cores apart;
       stands = λ p m image k core own log held e h. own_row_stands cores merge apart c.rows_are_local.ensures p m image k core own log h held e;
+      start = knows_at_start;
       goes_on = goes_on;
     }
