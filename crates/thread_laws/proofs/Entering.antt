@@ -40,7 +40,7 @@ enters_is : (id : PeiId) (a : Actor) (kind : EventKind) → (same_core a.core id
 enters_is id a (event.Enter seq) h = (seq, refl, same_pei_is (pei_id a seq) id h)
 enters_is id a _ h = absurd (cc (sym h ∙ and-false (same_core a.core id.core)))
 
-picked_in : {A B : Type 0} (f : A → Option B) (xs : List A) (y : B) → In y (filter_map f xs) → (x : A) × In x xs × (f x ≡ Some y)
+pub picked_in : {A B : Type 0} (f : A → Option B) (xs : List A) (y : B) → In y (filter_map f xs) → (x : A) × In x xs × (f x ≡ Some y)
 picked_in f [] y i = absurd i
 picked_in {A} {B} f (x ∷ xs) y i = by (f x) refl i (picked_in f xs y)
   where
@@ -49,7 +49,7 @@ picked_in {A} {B} f (x ∷ xs) y i = by (f x) refl i (picked_in f xs y)
     by (Some z) e (inl same) rest = (x, inl refl, e ∙ ap Some (sym same))
     by (Some z) e (inr j) rest = let r = rest j in (r.0, inr r.1, r.2)
 
-in_picked : {A B : Type 0} (f : A → Option B) (xs : List A) (x : A) (y : B) → In x xs → f x ≡ Some y → In y (filter_map f xs)
+pub in_picked : {A B : Type 0} (f : A → Option B) (xs : List A) (x : A) (y : B) → In x xs → f x ≡ Some y → In y (filter_map f xs)
 in_picked f [] x y i h = absurd i
 in_picked f (z ∷ xs) x y (inl same) h = subst (λ o. In y (cons_option o (filter_map f xs))) (sym h ∙ ap f same) (inl refl)
 in_picked {A} {B} f (z ∷ xs) x y (inr i) h = by (f z) (in_picked f xs x y i h)
@@ -59,7 +59,7 @@ in_picked {A} {B} f (z ∷ xs) x y (inr i) h = by (f z) (in_picked f xs x y i h)
     by (Some w) j = inr j
 
 -- a PEI of the state has not left
-not_left : (log : List Event) (ls : List PeiLook) → Tracks log ls → (l : PeiLook) → In l ls → has_left log l.id ≡ false
+pub not_left : (log : List Event) (ls : List PeiLook) → Tracks log ls → (l : PeiLook) → In l ls → has_left log l.id ≡ false
 not_left log ls g l i = by (has_left log l.id) refl
   where
     by : (b : Bool) → has_left log l.id ≡ b → has_left log l.id ≡ false

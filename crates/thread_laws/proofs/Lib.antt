@@ -11,3 +11,4 @@ pub mod Own
 pub mod OwnRows
 pub mod Meeting
 pub mod Standing
+pub mod Waiting

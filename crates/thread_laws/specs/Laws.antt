@@ -1,5 +1,5 @@
 -- The laws of this crate.
-use Rattle.std.specs.Prelude.{◌≡◌, ◌≢◌, ℕ, ◌<◌, true, false, ◌||◌, List, [], ◌∷◌, ◌++◌, map, filter, Some, None, is_none, slice_index}
+use Rattle.std.specs.Prelude.{◌≡◌, ◌≢◌, ℕ, ◌<◌, ◌≤◌, true, false, ◌||◌, List, [], ◌∷◌, ◌++◌, map, filter, Some, None, is_none, slice_index}
 use Rattle.std.specs.List.{list_any, AllByRecursion}
 use Rattle.pei_types.specs.declared.stamps.Stamped.{Stamped}
 use Rattle.pei_types.specs.declared.identifiers.CoreId.{CoreId}
@@ -31,13 +31,16 @@ use Rattle.bank_laws.specs.Rows.{IsRowIn, IsRowOfBank}
 use Rattle.shared_table.specs.declared.claims.Claim.{Claim}
 use Rattle.shared_table.specs.declared.claims.Claim.TheVariants.{Held}
 use Rattle.shared_table.specs.Actives.{active_pei, active_in}
+use Rattle.shared_table.specs.Claims.{earlier_left}
 use Rattle.shared_table.specs.Diaries.{active_of}
+use Rattle.shared_table.specs.Journal.{events}
 use Rattle.shared_table.specs.Orderly.{Continues, Follows}
 use Rattle.shared_table.specs.Own.{Has, IsIdle}
 use Rattle.shared_table.specs.Rule.{IsClear}
 use Rattle.thread_laws.specs.BankLogs.{IsBankLog}
 use Rattle.thread_laws.specs.Entered.{next_entered}
 use Rattle.thread_laws.specs.OwnEvents.{IssuesNext, KnowsItsPart, look_there, pei_there}
+use Rattle.thread_laws.specs.Waits.{WaitsForNone}
 
 -- In a log each of whose events is its PEI's next, and whose issues have names of their own, the PEIs on their way after it are those
 -- that it issued and that have not left, in the order of their issue, each as it was issued and as its events left it; whatever
@@ -104,3 +107,10 @@ pub record CoresMeetBanks : Type 0 where
   pub stands : (p : Listing) (m : MachineSpec) (image : Contents) (k : ℕ) (c : CoreId) (own : List Placed) (log : List Event) (h : Holdings) (e : Event) → KnowsItsPart m k c own log → BankInOrder m image log h → same_core e.actor.core c ≡ true → IsRowIn p m image k log (journal_of own) e → StandsRightly m own (record { bank = k; event = e })
   pub start : (m : MachineSpec) (k : ℕ) (c : CoreId) (log : List Event) → HasBanks m → events_of c log ≡ [] → KnowsItsPart m k c [] log
   pub goes_on : (m : MachineSpec) (k : ℕ) (c : CoreId) (own : List Placed) (log longer : List Event) (x : Placed) → KnowsItsPart m k c own log → StandsRightly m own x → IssuesNext m (journal_of own) x.event → events_of c longer ≡ log_of k (own ++ x ∷ []) → KnowsItsPart m k c (own ++ x ∷ []) longer
+
+-- A bank is cleared for a fence exactly where its state has no writer whose issue has a smaller stamp than the fence's begin; and it
+-- stays so while its log goes on with greater stamps.
+pub record BanksAreCleared : Type 0 where
+  pub cleared : (m : MachineSpec) (log : List Stamped) (begin : ℕ) → EachEvent Continues (events log) → WaitsForNone begin log (state_after m (events log)).peis → earlier_left begin log ≡ true
+  pub waits : (m : MachineSpec) (log : List Stamped) (begin : ℕ) → EachEvent Continues (events log) → earlier_left begin log ≡ true → WaitsForNone begin log (state_after m (events log)).peis
+  pub stays : (log more : List Stamped) (begin : ℕ) → AllByRecursion (λ x. begin ≤ x.stamp) more → earlier_left begin log ≡ true → earlier_left begin (log ++ more) ≡ true

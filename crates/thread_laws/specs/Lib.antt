@@ -1,4 +1,5 @@
 pub mod BankLogs
 pub mod Entered
 pub mod OwnEvents
+pub mod Waits
 pub mod Laws

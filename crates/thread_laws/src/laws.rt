@@ -1,6 +1,6 @@
 //! The laws, each the contract of a function with an empty body, but for the laws that it rests on.
 
-ghost use Rattle.thread_laws.specs.Laws.{LogsTrack, BanksFollow, EntriesAreFree, ActivesGoOn, OwnIssuesAreNew, CoresMeetBanks};
+ghost use Rattle.thread_laws.specs.Laws.{LogsTrack, BanksFollow, EntriesAreFree, ActivesGoOn, OwnIssuesAreNew, CoresMeetBanks, BanksAreCleared};
 
 use bank_laws::laws as banks;
 use shared_table as table;
@@ -50,5 +50,12 @@ pub fn cores_meet_banks()
     banks::banks_keep_apart();
     banks::rows_are_local();
     banks::banks_merge();
+    banks::cores_go_on();
+}
+
+/// A bank is cleared for a fence exactly where its state has no writer that was issued before the fence began.
+pub fn banks_are_cleared()
+    ensures { BanksAreCleared }
+{
     banks::cores_go_on();
 }
