@@ -12,3 +12,4 @@ pub mod OwnRows
 pub mod Meeting
 pub mod Standing
 pub mod Waiting
+pub mod Examples

@@ -3,3 +3,4 @@ pub mod Entered
 pub mod OwnEvents
 pub mod Waits
 pub mod Laws
+pub mod Examples
