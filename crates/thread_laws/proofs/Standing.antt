@@ -1,9 +1,10 @@
 -- A core's own row stands in the bank that it was made in.
-use Rattle.std.proofs.Common.{◌≡◌, ◌⊎◌, inl, inr, ℕ, zero, suc, Bool, true, false, ◌&&◌, if◌then◌else◌, List, [], ◌∷◌, ◌++◌, Option, Some, None, refl, sym, ◌∙◌, ap, subst, eqb-true}
-use Rattle.std.specs.Prelude.{⊤, slice_index}
+use Rattle.std.proofs.Common.{cond, filter, map, ◌≡◌, ◌⊎◌, inl, inr, ℕ, zero, suc, Bool, true, false, ◌&&◌, if◌then◌else◌, List, [], ◌∷◌, ◌++◌, Option, Some, None, refl, sym, ◌∙◌, ap, subst, eqb-true}
+use Rattle.std.specs.Prelude.{◌==◌, ⊤, slice_index}
 use Rattle.std.proofs.lemmas.Bool.{and_parts}
 use Rattle.std.proofs.lemmas.List.{map-append}
 use Rattle.std.proofs.lemmas.Option.{same_Some}
+use Rattle.pei_types.specs.declared.stamps.Stamped.{Stamped}
 use Rattle.pei_types.specs.declared.identifiers.Actor.{Actor}
 use Rattle.pei_types.specs.declared.identifiers.Block.{Block}
 use Rattle.pei_types.specs.declared.identifiers.BlockNo.{BlockNo}
@@ -35,12 +36,16 @@ use Rattle.history_laws.specs.Members.{In}
 use Rattle.history_laws.specs.Tracking.{as_issued}
 use Rattle.coherence_laws.specs.Holdings.{Holdings}
 use Rattle.coherence_laws.specs.Invariants.{HasSets}
-use Rattle.bank_laws.specs.Banks.{HasBanks, Placed, EachPlaced, Stands, StandsRightly, IsPeiOf, bank_of, journal_of, log_of}
+use Rattle.bank_laws.specs.Banks.{HasBanks, Placed, EachPlaced, Stands, StandsRightly, IsPeiOf, bank_of, is_made_in, journal_of, log_of}
 use Rattle.bank_laws.specs.Kept.{BankInOrder}
 use Rattle.bank_laws.specs.Laws.{BanksKeepApart, BanksMerge, CoresGoOn, RowsAreLocal}
 use Rattle.bank_laws.specs.Parts.{is_in_bank}
 use Rattle.bank_laws.specs.Rows.{IsCallOf, IsMadeIn, IsRowIn, bank_look, program_turn_in, pei_turn_in, turn_in}
-use Rattle.thread_laws.specs.OwnEvents.{IssuesNext, KnowsItsPart, look_there}
+use Rattle.shared_table.specs.declared.claims.Made.{Made}
+use Rattle.shared_table.specs.Diaries as diaries
+use Rattle.shared_table.specs.Diaries.{made_in}
+use Rattle.shared_table.specs.Journal.{events}
+use Rattle.thread_laws.specs.OwnEvents.{placed_of, IssuesNext, KnowsItsPart, look_there}
 use Rattle.thread_laws.proofs.Lanes.{paired}
 use Rattle.thread_laws.proofs.Lists.{each_of, each_in, find_Some}
 use Rattle.thread_laws.proofs.Meeting.{were_issued, look_meets}
@@ -224,3 +229,29 @@ placed_none P (y ∷ before) back x same = absurd (cc same)
 
 pub knows_at_start : (m : MachineSpec) (k : ℕ) (c : CoreId) (log : List Event) → HasBanks m → events_of c log ≡ [] → KnowsItsPart m k c [] log
 knows_at_start m k c log banks none = record { banks = banks; stands = placed_none (StandsRightly m); issues = each_of_from (IssuesNext m) [] tt; part = none }
+
+-- ---- what a seat has
+
+-- a core's events of a log, with their stamps and without
+events_alike : (c : CoreId) (log : List Stamped) → map (λ x. x.event) (diaries.events_of c.0 log) ≡ events_of c (events log)
+events_alike c [] = refl
+events_alike c (x ∷ log) = by (same_core x.event.actor.core c) (events_alike c log)
+  where
+    by : (b : Bool) → map (λ y. y.event) (diaries.events_of c.0 log) ≡ events_of c (events log) → map (λ y. y.event) (cond b (x ∷ diaries.events_of c.0 log) (diaries.events_of c.0 log)) ≡ cond b (x.event ∷ events_of c (events log)) (events_of c (events log))
+    by true h = ap (λ es. x.event ∷ es) h
+    by false h = h
+
+made_alike : (k : ℕ) (mine : List Made) → map (λ x. x.event) (made_in k mine) ≡ log_of k (placed_of mine)
+made_alike k [] = refl
+made_alike k (x ∷ mine) = by (x.bank == k) (made_alike k mine)
+  where
+    by : (b : Bool) → map (λ y. y.event) (made_in k mine) ≡ log_of k (placed_of mine) → map (λ y. y.event) (cond b (record { stamp = x.stamp; event = x.event } ∷ made_in k mine) (made_in k mine)) ≡ map (λ y. y.event) (cond b (record { bank = x.bank; event = x.event } ∷ filter (is_made_in k) (placed_of mine)) (filter (is_made_in k) (placed_of mine)))
+    by true h = ap (λ es. x.event ∷ es) h
+    by false h = h
+
+pub part_told : (k : ℕ) (c : CoreId) (log : List Stamped) (mine : List Made) → diaries.events_of c.0 log ≡ made_in k mine → events_of c (events log) ≡ log_of k (placed_of mine)
+part_told k c log mine same = sym (events_alike c log) ∙ ap (map (λ (x : Stamped). x.event)) same ∙ made_alike k mine
+
+pub own_told : (mine : List Made) → journal_of (placed_of mine) ≡ map (λ x. x.event) mine
+own_told [] = refl
+own_told (x ∷ mine) = ap (λ es. x.event ∷ es) (own_told mine)

@@ -28,18 +28,20 @@ use Rattle.bank_laws.specs.Banks.{HasBanks, Placed, StandsRightly, journal_of, l
 use Rattle.bank_laws.specs.Kept.{BankInOrder, FitsInBank}
 use Rattle.bank_laws.specs.Logs.{Rises, HandsBack}
 use Rattle.bank_laws.specs.Rows.{IsRowIn, IsRowOfBank}
+use Rattle.shared_table.specs.declared.claims.Made.{Made}
 use Rattle.shared_table.specs.declared.claims.Claim.{Claim}
 use Rattle.shared_table.specs.declared.claims.Claim.TheVariants.{Held}
 use Rattle.shared_table.specs.Actives.{active_pei, active_in}
 use Rattle.shared_table.specs.Claims.{earlier_left}
-use Rattle.shared_table.specs.Diaries.{active_of}
+use Rattle.shared_table.specs.Diaries.{active_of, made_in}
+use Rattle.shared_table.specs.Diaries as diaries
 use Rattle.shared_table.specs.Journal.{events}
 use Rattle.shared_table.specs.Orderly.{Continues, Follows}
 use Rattle.shared_table.specs.Own.{Has, IsIdle}
 use Rattle.shared_table.specs.Rule.{IsClear}
 use Rattle.thread_laws.specs.BankLogs.{IsBankLog}
 use Rattle.thread_laws.specs.Entered.{next_entered}
-use Rattle.thread_laws.specs.OwnEvents.{IssuesNext, KnowsItsPart, look_there, pei_there}
+use Rattle.thread_laws.specs.OwnEvents.{IssuesNext, KnowsItsPart, look_there, pei_there, placed_of}
 use Rattle.thread_laws.specs.Waits.{WaitsForNone}
 
 -- In a log each of whose events is its PEI's next, and whose issues have names of their own, the PEIs on their way after it are those
@@ -95,9 +97,9 @@ pub record OwnIssuesAreNew : Type 0 where
 
 -- What a bank has of a core is what the core's own events tell. The PEI that the bank's log leaves in a lane of the core is the one that
 -- the own events leave there, where its block is in this bank, and else none; so is the PEI that the log issued under a name. So the
--- core's lowest free lane has no PEI of the bank, and its next number names none. And
--- in the bank where all of the core's fences are made, its fence is on exactly where its own events leave it on. The next row of the core
--- in the bank stands there, and so a core goes on to know its part of each bank.
+-- core's lowest free lane has no PEI of the bank, and its next number names none. In the bank where all of the core's fences are made,
+-- its fence is on exactly where its own events leave it on. The next row of the core in the bank stands there, and so a core goes on
+-- to know its part of each bank; which part that is, its seat is told where it takes the bank.
 pub record CoresMeetBanks : Type 0 where
   pub look : (m : MachineSpec) (k : ℕ) (c : CoreId) (own : List Placed) (log : List Event) (l : Lane) → KnowsItsPart m k c own log → look_in (state_after m log) c l ≡ look_there m k (look_in (state_after m (journal_of own)) c l)
   pub pei : (m : MachineSpec) (k : ℕ) (c : CoreId) (own : List Placed) (log : List Event) (id : PeiId) → KnowsItsPart m k c own log → same_core id.core c ≡ true → pei_of log id ≡ pei_there m k (pei_of (journal_of own) id)
@@ -107,6 +109,8 @@ pub record CoresMeetBanks : Type 0 where
   pub stands : (p : Listing) (m : MachineSpec) (image : Contents) (k : ℕ) (c : CoreId) (own : List Placed) (log : List Event) (h : Holdings) (e : Event) → KnowsItsPart m k c own log → BankInOrder m image log h → same_core e.actor.core c ≡ true → IsRowIn p m image k log (journal_of own) e → StandsRightly m own (record { bank = k; event = e })
   pub start : (m : MachineSpec) (k : ℕ) (c : CoreId) (log : List Event) → HasBanks m → events_of c log ≡ [] → KnowsItsPart m k c [] log
   pub goes_on : (m : MachineSpec) (k : ℕ) (c : CoreId) (own : List Placed) (log longer : List Event) (x : Placed) → KnowsItsPart m k c own log → StandsRightly m own x → IssuesNext m (journal_of own) x.event → events_of c longer ≡ log_of k (own ++ x ∷ []) → KnowsItsPart m k c (own ++ x ∷ []) longer
+  pub part : (k : ℕ) (c : CoreId) (log : List Stamped) (mine : List Made) → diaries.events_of c.0 log ≡ made_in k mine → events_of c (events log) ≡ log_of k (placed_of mine)
+  pub own : (mine : List Made) → journal_of (placed_of mine) ≡ map (λ x. x.event) mine
 
 -- A bank is cleared for a fence exactly where its state has no writer whose issue has a smaller stamp than the fence's begin; and it
 -- stays so while its log goes on with greater stamps.

@@ -1,5 +1,5 @@
 -- What a core knows of its own events.
-use Rattle.std.specs.Prelude.{◌≡◌, ℕ, ◌<◌, Bool, ⊤, List, Option, Some, None, if◌then◌else◌, slice_index}
+use Rattle.std.specs.Prelude.{◌≡◌, ℕ, ◌<◌, Bool, ⊤, List, map, Option, Some, None, if◌then◌else◌, slice_index}
 use Rattle.pei_types.specs.declared.identifiers.Actor.{Actor}
 use Rattle.pei_types.specs.declared.identifiers.CoreId.{CoreId}
 use Rattle.pei_types.specs.declared.inflight_looks.PeiLook.{PeiLook}
@@ -13,6 +13,7 @@ use Rattle.pei_types.specs.History.{Pei}
 use Rattle.pei_types.specs.Legal.{EachEvent}
 use Rattle.bank_laws.specs.Banks.{HasBanks, Placed, EachPlaced, StandsRightly, journal_of, log_of}
 use Rattle.bank_laws.specs.Parts.{is_in_bank, is_issued_in}
+use Rattle.shared_table.specs.declared.claims.Made.{Made}
 
 -- An issue is of a core of the machine, and takes the core's next number and its lowest free lane.
 abbrev pub IssuesBy : MachineSpec → State → Actor → EventKind → Type 0
@@ -42,3 +43,7 @@ pub record KnowsItsPart (m : MachineSpec) (k : ℕ) (c : CoreId) (own : List Pla
   pub stands : EachPlaced (StandsRightly m) own
   pub issues : EachEvent (IssuesNext m) (journal_of own)
   pub part : events_of c log ≡ log_of k own
+
+-- a core's own events, as its seat has them, each with the bank that it was made in
+abbrev pub placed_of : List Made → List Placed
+placed_of mine = map (λ x. record { bank = x.bank; event = x.event }) mine

@@ -1,5 +1,5 @@
 use Rattle.thread_laws.proofs.Meeting.{look_meets, pei_meets, next_lane, next_name, fence_meets}
-use Rattle.thread_laws.proofs.Standing.{own_row_stands, knows_at_start, goes_on}
+use Rattle.thread_laws.proofs.Standing.{own_row_stands, knows_at_start, goes_on, part_told, own_told}
 use Rattle.thread_laws.proofs.laws.cores_meet_banks.Goals as goal
 
 pub returns : goal.returns
@@ -16,4 +16,6 @@ returns c =
       stands = λ p m image k core own log held e h. own_row_stands cores merge apart c.rows_are_local.ensures p m image k core own log h held e;
       start = knows_at_start;
       goes_on = goes_on;
+      part = part_told;
+      own = own_told;
     }
