@@ -1,0 +1,15 @@
+pub mod Lists
+pub mod Grows
+pub mod Tracks
+pub mod Following
+pub mod Entering
+pub mod Rows
+pub mod BankLogs
+pub mod Lanes
+pub mod Actives
+pub mod Own
+pub mod OwnRows
+pub mod Meeting
+pub mod Standing
+pub mod Waiting
+pub mod Examples
