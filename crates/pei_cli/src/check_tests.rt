@@ -21,15 +21,15 @@ const TRACE: &[u8] =
 
 /// What a command came to, what it wrote, and the line of its fault.
 #[derive(Drop)]
-struct Served {
-    result: Result<PlainEnd, Fault>,
-    sink: MemSink,
-    line: MemSink,
+pub(crate) struct Served {
+    pub(crate) result: Result<PlainEnd, Fault>,
+    pub(crate) sink: MemSink,
+    pub(crate) line: MemSink,
 }
 
 /// Checks a trace of these bytes over a program and a machine. The command's words are split at spaces. A read moves at
 /// most `most` bytes, and the read and the write of these numbers, counted from 1, fail.
-fn checked(
+pub(crate) fn checked(
     alloc: Global,
     command: &str,
     program: &[u8],

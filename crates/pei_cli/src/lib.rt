@@ -25,4 +25,6 @@ mod check_tests;
 #[cfg(test)]
 mod litmus_tests;
 #[cfg(test)]
+mod outside_tests;
+#[cfg(test)]
 mod tests;
