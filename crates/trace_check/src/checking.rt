@@ -13,8 +13,8 @@ use std::alloc::Global;
 ///
 /// The answer is `Legal` exactly where the journal is legal. Else it tells the first event that fails a clause, and of the
 /// clauses that it fails the first in the order of `Clause`. An event behind as many as the machine's `events` fails
-/// `Next`. All memory is taken first; `OutOfMemory` comes only where it could not be had. The time is that of the length
-/// of the journal.
+/// `Next`. All memory is taken first; `OutOfMemory` says that it could not be had, and no clause ties it to that. The time is
+/// that of the length of the journal.
 ///
 /// The condition is that the image has the machine's number of blocks.
 pub fn check(
