@@ -27,10 +27,12 @@ use Rattle.pei_types.proofs.Pushes.{issued_peis-push}
 use Rattle.history_laws.specs.Members.{In}
 use Rattle.bank_laws.specs.Logs.{merged, AreStamped}
 use Rattle.bank_laws.specs.Across.{Happens, Issues, HappensBelow, enters, leaves, ExcludeByStamps, FenceByStamps}
-use Rattle.bank_laws.proofs.Lists.{in_filter, found_in}
+use Rattle.bank_laws.proofs.Lists.{found_in}
 use Rattle.bank_laws.proofs.Logs.{NextIs, next_is}
-use Rattle.bank_laws.proofs.Orders.{merged_more, before_last_other, before_last_same}
+use Rattle.bank_laws.proofs.Orders.{merged_more}
 use Rattle.bank_laws.proofs.Stamps.{same_item}
+use Rattle.history_laws.proofs.Lists.{in_filter}
+use Rattle.history_laws.proofs.Grows.{before_last_other, before_last_same}
 
 -- ---- what happened before a stamp
 

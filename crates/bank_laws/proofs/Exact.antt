@@ -38,11 +38,12 @@ use Rattle.bank_laws.specs.Parts.{SameInBank, is_in_bank}
 use Rattle.bank_laws.specs.Rows.{IsCallOf, IsMadeIn, GoesInBank, MadeRightly, bank_look, program_turn_in, pei_turn_in, turn_in, without_waits}
 use Rattle.bank_laws.proofs.Cores.{alike_for_core}
 use Rattle.bank_laws.proofs.Histories.{placed_push, placed_none, journal_of-push}
-use Rattle.bank_laws.proofs.Lists.{each_of, in_filter, filter_in, found_in}
+use Rattle.bank_laws.proofs.Lists.{found_in}
 use Rattle.bank_laws.proofs.Locality.{load_same, store_same, entered_same}
 use Rattle.bank_laws.proofs.Main.{find_there, look_is, look_same, name_is, issue_is}
 use Rattle.bank_laws.proofs.Projection.{own_names, same_in_bank}
 use Rattle.bank_laws.proofs.Rows.{Rests, Runs, banks_run}
+use Rattle.history_laws.proofs.Lists.{each_of, in_filter, filter_in}
 
 module _ (m : MachineSpec) (k : ℕ) (s t : State) (look : CoreLook) (flat part : BlockNo → Block) (a : Actor) (kind : EventKind) (banks : HasBanks m) (h : SameInBank m k s t) (own : bank_look m s a.core ≡ look) (same : (b : BlockNo) → bank_of m b ≡ k → flat b ≡ part b) (sets : HasSets m s) where
   fence_back : (o : Option (List PeiId)) → fence_row o ≡ Makes kind → fence_row (without_waits o) ≡ Makes kind

@@ -21,8 +21,9 @@ use Rattle.bank_laws.specs.Banks.{Placed, EachPlaced, journal_of, log_of, is_mad
 use Rattle.bank_laws.specs.Rows.{IsRowIn, GoesInBank}
 use Rattle.bank_laws.specs.Logs.{event_with, in_first, in_next, NextInLogs, history_below, merged, events_below, Rises, AreStamped, AreOwn, IsFront, GoesBySeen, HandsBack, CoresHandBack}
 use Rattle.bank_laws.proofs.Histories.{journal_of-push, log_of-own, log_of-other, placed_push, placed_none}
-use Rattle.bank_laws.proofs.Lists.{in_front, in_back, each_in}
+use Rattle.bank_laws.proofs.Lists.{in_front, in_back}
 use Rattle.bank_laws.proofs.Stamps.{same_item, events_more, events_same, events_at_start, events_seen, events_all, events_before_last, event_found, find_lacks, Lacks}
+use Rattle.history_laws.proofs.Lists.{each_in}
 
 -- the next event of the history: it stands in one log
 pub record NextIs (n : ℕ) (logs : List (List Stamped)) : Type 0 where

@@ -41,9 +41,10 @@ use Rattle.coherence_laws.specs.Laws.{LanesHoldPeis}
 use Rattle.bank_laws.specs.Banks.{HasBanks, Stands, IsPeiOf, bank_of}
 use Rattle.bank_laws.specs.Parts.{SameInBank, SameForCore, is_in_bank}
 use Rattle.bank_laws.specs.Rows.{IsCallOf, bank_look, program_turn_in, pei_turn_in, without_waits}
-use Rattle.bank_laws.proofs.Lists.{each_of, each_in, in_filter, filter_in, found_in}
+use Rattle.bank_laws.proofs.Lists.{found_in}
 use Rattle.bank_laws.proofs.Locality.{load_same, store_same, entered_same, unfinished_same, unentered_same, free_lane_same}
 use Rattle.bank_laws.proofs.Stays.{TurnStands, call_stays, pei_stays}
+use Rattle.history_laws.proofs.Lists.{each_of, each_in, in_filter, filter_in}
 
 -- ---- names are given once
 

@@ -18,9 +18,9 @@ use Rattle.bank_laws.specs.Banks.{EachPlaced, journal_of, log_of}
 use Rattle.bank_laws.specs.Logs.{history_below, merged, events_below, Rises, AreStamped}
 use Rattle.bank_laws.specs.Rows.{IsRowOfBank, IsGuardedWidely, GoesInSome}
 use Rattle.bank_laws.proofs.Histories.{placed_push, placed_none}
-use Rattle.bank_laws.proofs.Lists.{each_of, each_in}
 use Rattle.bank_laws.proofs.Logs.{next_is, log_below, history_length, journal_around}
 use Rattle.bank_laws.proofs.Stamps.{none_below}
+use Rattle.history_laws.proofs.Lists.{each_of, each_in}
 
 -- a rising list around an item
 around_item : (log : List Stamped) (x : Stamped) → Rises log → In x log → (rest : List Stamped) × (log ≡ filter (λ y. nat_lt y.stamp x.stamp) log ++ x ∷ rest)

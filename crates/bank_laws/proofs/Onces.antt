@@ -24,18 +24,19 @@ use Rattle.pei_types.proofs.Pushes.{phase_of-push}
 use Rattle.history_laws.specs.Members.{In}
 use Rattle.bank_laws.specs.Across.{Happens, Issues, enters, leaves, FollowInLogs, FollowsItsPei}
 use Rattle.bank_laws.specs.Logs.{events_below, AreStamped}
-use Rattle.bank_laws.proofs.Lists.{in_filter, filter_in, found_in}
+use Rattle.bank_laws.proofs.Lists.{found_in}
 use Rattle.bank_laws.proofs.Logs.{NextIs, next_is}
 use Rattle.bank_laws.proofs.Main.{name_is}
 use Rattle.bank_laws.proofs.Merging.{at_item}
 use Rattle.bank_laws.proofs.Stamps.{events_more, events_same, events_at_start, Lacks}
+use Rattle.history_laws.proofs.Lists.{in_filter, filter_in}
 
 -- ---- events below a stamp
 
 any_more : (test : Event → Bool) (events : List Event) (e : Event) → list_any test (events ++ e ∷ []) ≡ (list_any test events || test e)
 any_more test events e = list_any-append test events (e ∷ []) ∙ ap (λ b. list_any test events || b) (or-false (test e))
 
-or_either : (x y : Bool) → (x || y) ≡ true → (x ≡ true) ⊎ (y ≡ true)
+pub or_either : (x y : Bool) → (x || y) ≡ true → (x ≡ true) ⊎ (y ≡ true)
 or_either true y h = inl refl
 or_either false y h = inr h
 

@@ -26,6 +26,7 @@ use Rattle.bank_laws.proofs.Histories.{journal_of-push}
 use Rattle.bank_laws.proofs.Lists.{filter-all, filter-turned}
 use Rattle.bank_laws.proofs.Logs.{NextIs, next_is}
 use Rattle.bank_laws.proofs.Stamps.{same_item}
+use Rattle.history_laws.proofs.Grows.{before_last_other, before_last_same}
 
 -- ---- lists
 
@@ -128,23 +129,6 @@ stand_by_issue m last logs stamp h stamps g =
     (pair_filter (λ p q. stamp p.id < stamp q.id) (λ p. not (has_left journal p.id)) (issued_peis journal) (issues_below last logs stamp h stamps last (omega arith)).rising))
 
 -- ---- fences
-
-pub before_last_other : (p : Event → Bool) (xs : List Event) (x : Event) → p x ≡ false → before_last p (xs ++ x ∷ []) ≡ before_last p xs
-before_last_other p xs x h =
-    let k : ℕ = prefix_len (λ y. not (p y)) (reverse xs)
-    in let same : prefix_len (λ y. not (p y)) (reverse (xs ++ x ∷ [])) ≡ 1 + k = ap (prefix_len (λ y. not (p y))) (reverse-append xs (x ∷ [])) ∙ rw h refl
-    in let n : length (xs ++ x ∷ []) - prefix_len (λ y. not (p y)) (reverse (xs ++ x ∷ [])) - 1 ≡ length xs - k - 1 = rw (same, length-append xs (x ∷ [])) (omega arith)
-    in ap (λ j. take j (xs ++ x ∷ [])) n ∙ take-append-le (length xs - k - 1) xs (x ∷ []) (omega arith)
-
-pub before_last_same : (p : Event → Bool) (xs : List Event) (x : Event) → p x ≡ true → before_last p (xs ++ x ∷ []) ≡ xs
-before_last_same p xs x h =
-    let same : prefix_len (λ y. not (p y)) (reverse (xs ++ x ∷ [])) ≡ 0 = ap (prefix_len (λ y. not (p y))) (reverse-append xs (x ∷ [])) ∙ rw h refl
-    in let n : length (xs ++ x ∷ []) - prefix_len (λ y. not (p y)) (reverse (xs ++ x ∷ [])) - 1 ≡ length xs = rw (same, length-append xs (x ∷ [])) (omega arith)
-    in ap (λ j. take j (xs ++ x ∷ [])) n ∙ take-append-le (length xs) xs (x ∷ []) (omega arith) ∙ take_whole xs
-  where
-    take_whole : (ys : List Event) → take (length ys) ys ≡ ys
-    take_whole [] = refl
-    take_whole (y ∷ ys) = ap (λ zs. y ∷ zs) (take_whole ys)
 
 module _ (last : ℕ) (logs : List (List Stamped)) (c : CoreId) (f : ℕ) (h : AreStamped last logs) (x : Stamped) (bank : ℕ) (there : In x (list_at logs bank)) (at : x.stamp ≡ f) (begins : begins_fence c x.event ≡ true) (newest : (k : ℕ) (y : Stamped) → In y (list_at logs k) → begins_fence c y.event ≡ true → y.stamp ≤ f) where
   -- the events before the core's last fence

@@ -36,8 +36,8 @@ use Rattle.bank_laws.specs.Rows.{IsMadeIn, GoesInBank, bank_look, turn_in}
 use Rattle.bank_laws.proofs.Histories.{placed_induction, placed_prefix, journal_of-push}
 use Rattle.bank_laws.proofs.Projection.{Kept, kept_at_start, kept_step, own_names, same_in_bank, stands_weaker, were_issued}
 use Rattle.bank_laws.proofs.Cores.{alike_for_core}
-use Rattle.bank_laws.proofs.Lists.{each_of}
 use Rattle.bank_laws.proofs.Main.{enters_free, pei_of_bank, look_same, program_is, lane_is}
+use Rattle.history_laws.proofs.Lists.{each_of}
 
 -- the laws that this rests on
 pub record Rests : Type 0 where

@@ -9,7 +9,7 @@ use Rattle.pei_types.specs.declared.stamps.Stamped.{Stamped}
 use Rattle.pei_types.specs.Recency.{list_at}
 use Rattle.history_laws.specs.Members.{In}
 use Rattle.bank_laws.specs.Logs.{has_stamp, in_first, in_next, event_with, events_below, Rises, IsFront}
-use Rattle.bank_laws.proofs.Lists.{each_of, each_in}
+use Rattle.history_laws.proofs.Lists.{each_of, each_in}
 
 is_below : ℕ → Stamped → Bool
 is_below n x = nat_lt x.stamp n

@@ -21,8 +21,8 @@ use Rattle.bank_laws.specs.Banks.{bank_of}
 use Rattle.bank_laws.specs.Parts.{SameInBank, is_in_bank}
 use Rattle.bank_laws.specs.Local.{SameOn}
 use Rattle.bank_laws.specs.Merge.{IsWhole, SameCaches, HoldSame}
-use Rattle.bank_laws.proofs.Lists.{each_of, each_in, in_filter, filter_in}
 use Rattle.bank_laws.proofs.Locality.{letter_same, mark_same}
+use Rattle.history_laws.proofs.Lists.{each_of, each_in, in_filter, filter_in}
 
 -- ---- lists by their places
 
@@ -37,7 +37,7 @@ block i = record { 0 = i }
 
 -- the banks are at least one, and each block is of one of them
 bank_below : (m : MachineSpec) (b : BlockNo) → bank_of m b < m.banks
-bank_below m b = mod_below b.0 m.banks (let some = m.banks_in_limits in omega (arith, some))
+bank_below m b = mod_below b.0 m.banks (let some = m.banks_in_limits.0 in omega (arith, some))
 
 module _ (m : MachineSpec) (s t : State) (same : (k : ℕ) → k < m.banks → SameInBank m k s t) (hs : HasSizes m s) (ht : HasSizes m t) where
   by_block : (b : BlockNo) → SameInBank m (bank_of m b) s t

@@ -46,7 +46,7 @@ use Rattle.fabric.specs.Whole.{Whole, content_in}
 use Rattle.fabric.specs.declared.looks.CoreLook.{CoreLook}
 use Rattle.fabric.proofs.Rows.{FitsIn, kind_fits, lane_fits, load_fits, store_fits, no_entering}
 use Rattle.fabric.proofs.Stampings.{fresh_of, log_events}
-use Rattle.pei_types.specs.Limits.{IsPowerOfTwo, two_power_1}
+
 use Rattle.pei_types.specs.Operation.{CanApply, is_writer}
 use Rattle.pei_types.proofs.Identities.{makes_is}
 
@@ -54,8 +54,8 @@ use Rattle.pei_types.proofs.Identities.{makes_is}
 
 pub has_banks : BankLaws → (m : MachineSpec) → HasBanks m
 has_banks laws m =
-    let one : m.banks ≡ 1 = omega (arith, m.banks_in_limits.0, m.banks_in_limits.1)
-    in laws.apart.banks m (subst IsPowerOfTwo (sym one) two_power_1) (omega (arith, one, m.l1_sets_in_limits.0.0)) (omega (arith, one, m.llc_sets_in_limits.0.0)) (omega (arith, one, m.vaults_in_limits.0.0))
+    let fit = m.banks_in_limits
+    in laws.apart.banks m fit.1.0 fit.1.1.0 fit.1.1.1.0 fit.1.1.1.1
 
 -- states that are alike are so in every bank
 same_bank : (m : MachineSpec) (k : ℕ) (s t : State) → AreAlike s t → SameInBank m k t s

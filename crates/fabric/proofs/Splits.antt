@@ -19,7 +19,7 @@ pub banks_length : (m : MachineSpec) (image : Contents) → length (banks_at_sta
 banks_length m image = length-map-range_with_len (bank_at_start m image) 0 m.banks
 
 pub banks_cons : (m : MachineSpec) (image : Contents) → IsCons (banks_at_start m image)
-banks_cons m image = by m.banks m.banks_in_limits.0
+banks_cons m image = by m.banks m.banks_in_limits.0.0
   where
     by : (n : ℕ) → 1 ≤ n → IsCons (map (bank_at_start m image) (range_with_len 0 n))
     by zero h = absurd (omega (arith, h))

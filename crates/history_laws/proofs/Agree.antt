@@ -202,7 +202,7 @@ left_gone_kept journal e none names before id h = by (is_about id e) refl
     by true q = absurd (names id q gone)
     by false q = phase_kept journal e id q ∙ gone
 
-as_issued_moved : (id : PeiId) (ph : Phase) (ls : List PeiLook) → map as_issued (map (with_phase id ph) ls) ≡ map as_issued ls
+pub as_issued_moved : (id : PeiId) (ph : Phase) (ls : List PeiLook) → map as_issued (map (with_phase id ph) ls) ≡ map as_issued ls
 as_issued_moved id ph [] = refl
 as_issued_moved id ph (l ∷ ls) = ap₂ (λ p ps. p ∷ ps) (by (same_pei l.id id)) (as_issued_moved id ph ls)
   where

@@ -106,14 +106,14 @@ unfinished_left events e i = ap (filter (λ p. not (has_left (events ++ e ∷ []
 
 -- ---- fences
 
-before_last_other : (p : Event → Bool) (xs : List Event) (x : Event) → p x ≡ false → before_last p (xs ++ x ∷ []) ≡ before_last p xs
+pub before_last_other : (p : Event → Bool) (xs : List Event) (x : Event) → p x ≡ false → before_last p (xs ++ x ∷ []) ≡ before_last p xs
 before_last_other p xs x h =
     let k : ℕ = prefix_len (λ y. not (p y)) (reverse xs)
     in let same : prefix_len (λ y. not (p y)) (reverse (xs ++ x ∷ [])) ≡ 1 + k = ap (prefix_len (λ y. not (p y))) (reverse-append xs (x ∷ [])) ∙ rw h refl
     in let n : length (xs ++ x ∷ []) - prefix_len (λ y. not (p y)) (reverse (xs ++ x ∷ [])) - 1 ≡ length xs - k - 1 = rw (same, length-append xs (x ∷ [])) (omega arith)
     in ap (λ j. take j (xs ++ x ∷ [])) n ∙ take-append-le (length xs - k - 1) xs (x ∷ []) (omega arith)
 
-before_last_same : (p : Event → Bool) (xs : List Event) (x : Event) → p x ≡ true → before_last p (xs ++ x ∷ []) ≡ xs
+pub before_last_same : (p : Event → Bool) (xs : List Event) (x : Event) → p x ≡ true → before_last p (xs ++ x ∷ []) ≡ xs
 before_last_same p xs x h =
     let same : prefix_len (λ y. not (p y)) (reverse (xs ++ x ∷ [])) ≡ 0 = ap (prefix_len (λ y. not (p y))) (reverse-append xs (x ∷ [])) ∙ rw h refl
     in let n : length (xs ++ x ∷ []) - prefix_len (λ y. not (p y)) (reverse (xs ++ x ∷ [])) - 1 ≡ length xs = rw (same, length-append xs (x ∷ [])) (omega arith)

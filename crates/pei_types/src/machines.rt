@@ -16,7 +16,8 @@ pub enum Policy3 {
 /// `cores` is 1 to 8, `blocks` of memory 16 to 65,536; `l1_sets` (to 64), `llc_sets` (to 1,024), `vaults` (to 16) and
 /// `directory` entries (2 to 2,048) are powers of two; a set of a private cache has `l1_ways` lines (to 8), one of the
 /// last-level cache `llc_ways` (to 16); a vault's `queue` holds up to 16 PEIs, a core's operand `buffer` up to 4; a core
-/// retires up to `fuel` instructions (to 1,000,000), a journal has room for `events` (64 to 1,048,576). `banks` is 1.
+/// retires up to `fuel` instructions (to 1,000,000), a journal has room for `events` (64 to 1,048,576). `banks` (to 8) is a
+/// power of two, and at most `l1_sets`, `llc_sets` and `vaults`.
 #[derive(Clone, Copy, PartialEq, Eq, Debug)]
 pub struct MachineSpec {
     pub cores: u8,
@@ -43,7 +44,7 @@ pub struct MachineSpec {
     ghost queue_in_limits: { IsWithin 1 16 queue },
     ghost directory_in_limits: { IsWithin 2 2048 directory × IsPowerOfTwo directory },
     ghost buffer_in_limits: { IsWithin 1 4 buffer },
-    ghost banks_in_limits: { IsWithin 1 1 banks },
+    ghost banks_in_limits: { IsWithin 1 8 banks × IsPowerOfTwo banks × (banks ≤ l1_sets) × (banks ≤ llc_sets) × (banks ≤ vaults) },
     ghost fuel_in_limits: { IsWithin 1 1000000 fuel },
     ghost events_in_limits: { IsWithin 64 1048576 events },
 }

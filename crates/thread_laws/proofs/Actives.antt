@@ -27,10 +27,10 @@ use Rattle.shared_table.specs.Diaries.{active_of}
 use Rattle.shared_table.specs.Orderly.{Continues, Follows, FollowsOf}
 use Rattle.shared_table.specs.Own.{IsIdle}
 use Rattle.thread_laws.specs.Entered.{next_entered}
-use Rattle.thread_laws.proofs.Lists.{each_of, in_map, in_filter, filter_in, find_Some}
 use Rattle.thread_laws.proofs.Entering.{past_entered, entered_next, follows_found}
 use Rattle.thread_laws.proofs.Lanes.{in_of_at, entered_lanes}
 use Rattle.thread_laws.proofs.Tracks.{Tracks}
+use Rattle.history_laws.proofs.Lists.{each_of, in_map, in_filter, filter_in, find_Some}
 
 -- ---- the active PEIs of one core
 

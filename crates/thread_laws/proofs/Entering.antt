@@ -28,10 +28,11 @@ use Rattle.history_laws.specs.Tracking.{as_issued, is_past_issue, IsTracked}
 use Rattle.bank_laws.specs.Across.{enters, leaves}
 use Rattle.shared_table.specs.Orderly.{Continues, FollowsOf}
 use Rattle.thread_laws.specs.Entered.{next_entered}
-use Rattle.thread_laws.proofs.Lists.{each_of, in_map, filter_in, find_Some, any_in, some_in, alike}
+use Rattle.thread_laws.proofs.Lists.{any_in, some_in, alike}
 use Rattle.thread_laws.proofs.Grows.{has_left-push, left_kept, pei_kept}
 use Rattle.thread_laws.proofs.Following.{log_induction}
 use Rattle.thread_laws.proofs.Tracks.{Tracks}
+use Rattle.history_laws.proofs.Lists.{each_of, in_map, filter_in, find_Some}
 
 -- ---- an event that enters
 

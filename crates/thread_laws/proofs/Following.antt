@@ -16,8 +16,8 @@ use Rattle.bank_laws.specs.Own.{next_peis}
 use Rattle.shared_table.specs.Orderly.{Continues}
 use Rattle.pei_types.specs.Blocks.{same_pei}
 use Rattle.pei_types.proofs.Identities.{same_pei_is}
-use Rattle.thread_laws.proofs.Lists.{each_of, filter-map, filter_agree_each, find_Some}
 use Rattle.thread_laws.proofs.Tracks.{Tracks, tracks_step}
+use Rattle.history_laws.proofs.Lists.{each_of, filter-map, filter_agree_each, find_Some}
 
 -- What holds at the start, and after each event where it held before, holds in the end.
 pub log_induction : (P : List Event → Event → Type 0) (G : List Event → Type 0) → G [] → ((before : List Event) (e : Event) → P before e → G before → G (before ++ e ∷ [])) → (log : List Event) → EachEvent P log → G log

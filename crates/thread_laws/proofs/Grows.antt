@@ -14,7 +14,8 @@ use Rattle.pei_types.specs.History.{Pei, issued_peis, pei_issued_by, pei_of, pha
 use Rattle.pei_types.proofs.Pushes.{issued_peis-push, phase_of-push}
 use Rattle.pei_types.proofs.Tests.{not-or}
 use Rattle.bank_laws.specs.Across.{enters, leaves}
-use Rattle.thread_laws.proofs.Lists.{any_push, filter-filter}
+use Rattle.history_laws.proofs.Grows.{enters_about, acts_about}
+use Rattle.history_laws.proofs.Lists.{any_push, filter-filter}
 
 abbrev pub acts : PeiId → Event → Bool
 acts id e = same_core e.actor.core id.core && is_act e.kind id.seq
@@ -29,21 +30,6 @@ pub has_acted-push : (log : List Event) (e : Event) (id : PeiId) → has_acted (
 has_acted-push log e id = any_push (acts id) log e
 
 -- no event is about a PEI that it does not name
-pub leaves_about : (kind : EventKind) (b : Bool) (n : ℕ) → (b && is_number (seq_named kind) n) ≡ false → (b && is_leave kind n) ≡ false
-leaves_about kind false n h = refl
-leaves_about (event.Leave seq) true n h = h
-leaves_about _ true n h = refl
-
-pub enters_about : (kind : EventKind) (b : Bool) (n : ℕ) → (b && is_number (seq_named kind) n) ≡ false → (b && is_enter kind n) ≡ false
-enters_about kind false n h = refl
-enters_about (event.Enter seq) true n h = h
-enters_about _ true n h = refl
-
-pub acts_about : (kind : EventKind) (b : Bool) (n : ℕ) → (b && is_number (seq_named kind) n) ≡ false → (b && is_act kind n) ≡ false
-acts_about kind false n h = refl
-acts_about (event.Act seq reply) true n h = h
-acts_about _ true n h = refl
-
 pub left_kept : (log : List Event) (e : Event) (id : PeiId) → leaves id e ≡ false → has_left (log ++ e ∷ []) id ≡ has_left log id
 left_kept log e id h = has_left-push log e id ∙ ap (λ x. has_left log id || x) h ∙ or-false (has_left log id)
 

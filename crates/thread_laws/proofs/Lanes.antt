@@ -31,9 +31,10 @@ use Rattle.shared_table.specs.declared.claims.Claim.TheVariants.{Held}
 use Rattle.shared_table.specs.Actives.{ActivesAreEntered, active_pei, active_in}
 use Rattle.shared_table.specs.Own.{Has}
 use Rattle.shared_table.specs.Rule.{IsClear}
-use Rattle.thread_laws.proofs.Lists.{each_of, map_in, find_Some, some_in}
+use Rattle.thread_laws.proofs.Lists.{some_in}
 use Rattle.thread_laws.proofs.Entering.{past_entered, entered_past}
 use Rattle.thread_laws.proofs.Tracks.{Tracks}
+use Rattle.history_laws.proofs.Lists.{each_of, map_in, find_Some}
 
 -- two of a list are one, or one stands before the other
 pub paired : {A : Type 0} (R : A → A → Type 0) (xs : List A) (x y : A) → EachPair R xs → In x xs → In y xs → (x ≡ y) ⊎ (R x y ⊎ R y x)

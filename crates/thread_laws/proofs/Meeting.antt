@@ -31,10 +31,10 @@ use Rattle.bank_laws.specs.Own.{new_look, next_peis}
 use Rattle.bank_laws.specs.Parts.{is_in_bank, is_issued_in, is_of_core}
 use Rattle.bank_laws.specs.Rows.{without_waits}
 use Rattle.thread_laws.specs.OwnEvents.{KnowsItsPart, if_passes, look_there, pei_there}
-use Rattle.thread_laws.proofs.Lists.{each_in, in_filter}
 use Rattle.thread_laws.proofs.Following.{every_log}
 use Rattle.thread_laws.proofs.Lanes.{paired}
 use Rattle.thread_laws.proofs.Own.{IsBelow, all_below, have_names, own_lanes}
+use Rattle.history_laws.proofs.Lists.{each_in, in_filter}
 
 -- ---- searches
 

@@ -29,7 +29,7 @@ use Rattle.bank_laws.specs.Laws.{BanksMerge, CoresGoOn}
 use Rattle.bank_laws.specs.Own.{new_look, next_peis, next_issues}
 use Rattle.thread_laws.specs.OwnEvents.{IssuesBy, IssuesNext}
 use Rattle.thread_laws.proofs.Following.{log_induction}
-use Rattle.thread_laws.proofs.Lists.{in_map, in_filter, find_None}
+use Rattle.history_laws.proofs.Lists.{in_map, in_filter, find_None, in_push}
 
 -- ---- counts
 
@@ -159,16 +159,6 @@ moved_lanes id ph ps h p q i j core lane =
 
 left_lanes : (keep : PeiLook → Bool) (ps : List PeiLook) → InLanes ps → InLanes (filter keep ps)
 left_lanes keep ps h p q i j = h p q (in_filter keep ps p i).0 (in_filter keep ps q j).0
-
-in_push : {A : Type 0} (xs : List A) (x y : A) → In y (xs ++ x ∷ []) → In y xs ⊎ (y ≡ x)
-in_push [] x y (inl e) = inr e
-in_push [] x y (inr i) = absurd i
-in_push (z ∷ zs) x y (inl e) = inl (inl e)
-in_push {A} (z ∷ zs) x y (inr i) = by (in_push zs x y i)
-  where
-    by : In y zs ⊎ (y ≡ x) → In y (z ∷ zs) ⊎ (y ≡ x)
-    by (inl j) = inl (inr j)
-    by (inr e) = inr e
 
 issued_lanes : (s : State) (c : CoreId) (l : Lane) (new : PeiLook) → new.id.core ≡ c → new.lane ≡ l → look_in s c l ≡ None → InLanes s.peis → InLanes (s.peis ++ new ∷ [])
 issued_lanes s c l new own there none h p q i j core lane = by (in_push s.peis new p i) (in_push s.peis new q j)

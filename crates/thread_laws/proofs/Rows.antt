@@ -36,8 +36,8 @@ use Rattle.history_laws.specs.Tracking.{IsTracked}
 use Rattle.bank_laws.specs.Kept.{FitsInBank}
 use Rattle.bank_laws.specs.Rows.{IsRowOfBank, program_turn_in, pei_turn_in, turn_in}
 use Rattle.shared_table.specs.Orderly.{FollowsOf, Follows, IsFresh}
-use Rattle.thread_laws.proofs.Lists.{each_of, find_Some}
 use Rattle.thread_laws.proofs.Tracks.{Tracks}
+use Rattle.history_laws.proofs.Lists.{each_of, find_Some}
 
 -- ---- messages
 

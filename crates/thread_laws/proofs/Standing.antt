@@ -47,9 +47,10 @@ use Rattle.shared_table.specs.Diaries.{made_in}
 use Rattle.shared_table.specs.Journal.{events}
 use Rattle.thread_laws.specs.OwnEvents.{placed_of, IssuesNext, KnowsItsPart, look_there}
 use Rattle.thread_laws.proofs.Lanes.{paired}
-use Rattle.thread_laws.proofs.Lists.{each_of, each_in, find_Some}
 use Rattle.thread_laws.proofs.Meeting.{were_issued, look_meets}
 use Rattle.thread_laws.proofs.Own.{have_names}
+use Rattle.history_laws.proofs.Lists.{each_of, each_in, find_Some}
+use Rattle.bank_laws.proofs.Histories.{first_or, rest_of, firsts, rests, placed_none}
 
 -- an event stands where it stood, with more PEIs
 stands_weaker : (m : MachineSpec) (k : ℕ) (Has Other : PeiId → Type 0) → ((id : PeiId) → Has id → Other id) → (a : Actor) (kind : EventKind) → Stands m k Has a kind → Stands m k Other a kind
@@ -188,22 +189,6 @@ module _ (cores : CoresGoOn) (merge : BanksMerge) (apart : BanksKeepApart) (loca
 
 -- ---- one more own event
 
-first_or : Placed → List Placed → Placed
-first_or x [] = x
-first_or x (y ∷ ys) = y
-
-rest_of : List Placed → List Placed
-rest_of [] = []
-rest_of (y ∷ ys) = ys
-
-firsts : (x y : Placed) (xs ys : List Placed) → x ∷ xs ≡ y ∷ ys → x ≡ y
-unfolding first_or
-firsts x y xs ys same = ap (first_or x) same
-
-rests : (x y : Placed) (xs ys : List Placed) → x ∷ xs ≡ y ∷ ys → xs ≡ ys
-unfolding rest_of
-rests x y xs ys same = ap rest_of same
-
 -- a fact on each event of a history, and on one more
 placed_push : (P : List Placed → Placed → Type 0) (history : List Placed) (x : Placed) → EachPlaced P history → P history x → EachPlaced P (history ++ x ∷ [])
 placed_push P [] x each h [] back y same = subst (P []) (firsts x y [] back same) h
@@ -222,10 +207,6 @@ goes_on m k c own log longer x h stands issues part =
       issues = subst (EachEvent (IssuesNext m)) (sym (map-append (λ (y : Placed). y.event) own (x ∷ []))) (each_push (IssuesNext m) (journal_of own) x.event h.issues issues);
       part = part;
     }
-
-placed_none : (P : List Placed → Placed → Type 0) → EachPlaced P []
-placed_none P [] back x same = absurd (cc same)
-placed_none P (y ∷ before) back x same = absurd (cc same)
 
 pub knows_at_start : (m : MachineSpec) (k : ℕ) (c : CoreId) (log : List Event) → HasBanks m → events_of c log ≡ [] → KnowsItsPart m k c [] log
 knows_at_start m k c log banks none = record { banks = banks; stands = placed_none (StandsRightly m); issues = each_of_from (IssuesNext m) [] tt; part = none }

@@ -32,8 +32,10 @@ use Rattle.history_laws.specs.Tracking.{as_issued, IsTracked}
 use Rattle.bank_laws.specs.Across.{enters, leaves}
 use Rattle.bank_laws.specs.Own.{new_look, next_peis}
 use Rattle.shared_table.specs.Orderly.{FollowsOf, IsFresh}
-use Rattle.thread_laws.proofs.Lists.{any_push, any_none, each_kept, filter-map}
-use Rattle.thread_laws.proofs.Grows.{acts, has_entered-push, has_acted-push, leaves_about, enters_about, acts_about, left_kept, entered_kept, acted_kept, phase_kept, phase_set, pei_kept, pei_more, issued_kept, issued_more, left_none, unfinished_kept, unfinished_left}
+use Rattle.thread_laws.proofs.Grows.{acts, has_entered-push, has_acted-push, left_kept, entered_kept, acted_kept, phase_kept, phase_set, pei_kept, pei_more, issued_kept, issued_more, left_none, unfinished_kept, unfinished_left}
+use Rattle.history_laws.proofs.Grows.{leaves_about, enters_about, acts_about}
+use Rattle.history_laws.proofs.Lists.{any_push, each_kept, filter-map, any_none}
+use Rattle.history_laws.proofs.Agree.{as_issued_moved}
 
 -- These PEIs are on their way after the log: those issued that have not left, in the order of their issue, each as its events left
 -- it. No event of the log is about a PEI that the log did not issue, and one that has left stands in no phase.
@@ -121,14 +123,6 @@ gone_kept log e none names before id h = by (is_about id e) refl
     by : (b : Bool) → is_about id e ≡ b → phase_of (log ++ e ∷ []) id ≡ None
     by true q = absurd (names id q was)
     by false q = phase_kept log e id q ∙ was
-
-as_issued_moved : (id : PeiId) (ph : Phase) (ls : List PeiLook) → map as_issued (map (with_phase id ph) ls) ≡ map as_issued ls
-as_issued_moved id ph [] = refl
-as_issued_moved id ph (l ∷ ls) = ap₂ (λ p ps. p ∷ ps) (by (same_pei l.id id)) (as_issued_moved id ph ls)
-  where
-    by : (b : Bool) → as_issued (if b then moved ph l else l) ≡ as_issued l
-    by true = refl
-    by false = refl
 
 -- a PEI moves on
 tracks_moved : (log : List Event) (ls : List PeiLook) (a : Actor) (kind : EventKind) (seq : ℕ) (ph : Phase) → Moves kind seq ph → FollowsPei log a kind seq → Tracks log ls → Tracks (log ++ made a kind ∷ []) (map (with_phase (pei_id a seq) ph) ls)

@@ -18,8 +18,8 @@ use Rattle.shared_table.specs.Claims.{earlier_left}
 use Rattle.shared_table.specs.Journal.{events}
 use Rattle.thread_laws.specs.Waits.{WaitsForNone}
 use Rattle.thread_laws.proofs.Entering.{picked_in, in_picked, not_left}
-use Rattle.thread_laws.proofs.Lists.{each_of, each_in, in_filter, filter_in, in_map, map_in}
 use Rattle.thread_laws.proofs.Tracks.{Tracks}
+use Rattle.history_laws.proofs.Lists.{each_of, each_in, in_map, map_in, in_filter, filter_in}
 
 -- which event of a log issued a PEI
 issue_in : (log : List Stamped) (p : Pei) → In p (issued_peis (events log)) → (x : Stamped) × In x log × (pei_issued_by x.event.actor x.event.kind ≡ Some p)

@@ -17,7 +17,7 @@ pub follow-requires-clause-few : goal.follow-requires-clause-few
 follow-requires-clause-few c =
     let one = ap length c.lead-banks.ensures
     in let all = ap length (sym c.take_first-first.ensures ∙ c.requires.2) ∙ banks_length c.requires.0 c.requires.1
-    in omega (arith, one, all, c.requires.0.banks_in_limits.1)
+    in omega (arith, one, all, c.requires.0.banks_in_limits.0.1)
 
 pub follow-requires-clause-later : goal.follow-requires-clause-later
 follow-requires-clause-later c = (starts_with c.requires.0 c.requires.1 c.take_first-first.result c.take_first-first.new.sections (sym c.take_first-first.ensures ∙ c.requires.2)).later

@@ -3,10 +3,10 @@ use Rattle.pei_types.specs.Blocks.{same_pei}
 use Rattle.pei_types.specs.Coherence.{state_after}
 use Rattle.pei_types.specs.History.{issued_peis}
 use Rattle.pei_types.proofs.Identities.{same_pei_refl}
-use Rattle.thread_laws.proofs.Lists.{each_of}
 use Rattle.thread_laws.proofs.Own.{IsBelow, all_below, new_name, have_names, own_lanes}
 use Rattle.thread_laws.proofs.OwnRows.{row_issues, handed_issues}
 use Rattle.thread_laws.proofs.laws.own_issues_are_new.Goals as goal
+use Rattle.history_laws.proofs.Lists.{each_of}
 
 pub returns : goal.returns
 returns c =
