@@ -55,7 +55,7 @@ use Rattle.pei_types.proofs.Identities.{makes_is}
 pub has_banks : BankLaws → (m : MachineSpec) → HasBanks m
 has_banks laws m =
     let fit = m.banks_in_limits
-    in laws.apart.banks m fit.1.0 fit.1.1.0 fit.1.1.1.0 fit.1.1.1.1
+    in laws.apart.banks m fit.1 fit.2 fit.3 fit.4
 
 -- states that are alike are so in every bank
 same_bank : (m : MachineSpec) (k : ℕ) (s t : State) → AreAlike s t → SameInBank m k t s

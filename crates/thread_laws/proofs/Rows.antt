@@ -81,11 +81,11 @@ module _ (m : MachineSpec) (s : State) where
 -- ---- the rows of a core's call
 
 -- an event of no PEI's lane
-abbrev IsNoPeis : Side → Type 0
+abbrev pub IsNoPeis : Side → Type 0
 IsNoPeis (Peis seq) = ⊥
 IsNoPeis _ = ⊤
 
-abbrev TurnIsNoPeis : Turn → Type 0
+abbrev pub TurnIsNoPeis : Turn → Type 0
 TurnIsNoPeis (Makes kind) = IsNoPeis (side_of kind)
 TurnIsNoPeis (Stalls cause) = ⊤
 
@@ -96,7 +96,7 @@ race_no_peis : (o : Option PeiId) (pc : ℕ) (b : BlockNo) (kind : EventKind) �
 race_no_peis None pc b kind h = h
 race_no_peis (Some by) pc b kind h = tt
 
-call_no_peis : (look : CoreLook) (m : MachineSpec) (s : State) (content : BlockNo → Block) (c : CoreId) (x : Call) → TurnIsNoPeis (call_row_by look m s content c x)
+pub call_no_peis : (look : CoreLook) (m : MachineSpec) (s : State) (content : BlockNo → Block) (c : CoreId) (x : Call) → TurnIsNoPeis (call_row_by look m s content c x)
 call_no_peis look m s content c (call.Load pc addr) =
     race_no_peis (conflict s (block_of addr) false) pc (block_of addr) _
     (either (λ kind. IsNoPeis (side_of kind)) (is_i (letter_of m s c (block_of addr))) (want m s c (block_of addr) false) (event.Load addr (slice_index (content (block_of addr)).0 (word_of addr)))
