@@ -147,7 +147,7 @@ const ROW: Row = Row {
 /// With four entries of its operand buffer a core has five actors, so each of its turns but the first comes five turns
 /// behind the one before; with one entry, two turns. With two entries of the directory, blocks 64 and 67 share one, and the
 /// second core's PEI enters behind the first one's end.
-const REPORTED: [Row; 17] = [
+const REPORTED: [Row; 18] = [
     ROW,
     Row { most: 1, ..ROW },
     Row {
@@ -247,6 +247,11 @@ const REPORTED: [Row; 17] = [
         status: 5,
         events: Some(1),
         turns: Some(1),
+        ..ROW
+    },
+    Row {
+        command: "sched p m rr 1000",
+        machine: b"cores = 1\nblocks = 128\nbanks = 2\n",
         ..ROW
     },
     Row {
@@ -422,7 +427,7 @@ const REFUSED_MACHINES: [(&[u8], &str, u8, &str); 12] = [
     (RAISE, "'a b' = 1\n", 4, "machine bad UnknownKey a b\n"),
     (
         RAISE,
-        "cores = 1\nblocks = 128\nbanks = 2\n",
+        "cores = 1\nblocks = 128\nbanks = 16\n",
         4,
         "machine bad OutOfLimits banks\n",
     ),
