@@ -51,12 +51,13 @@ const RAISE_HUNDRED: &[u8] =
 bne r2, r0, loop\npfence\nhalt\n";
 
 /// Two cores raise words of two blocks, 64 and 67.
-const RAISE_APART: &[u8] =
+pub(crate) const RAISE_APART: &[u8] =
     b".entry 0, a\n.entry 1, b\n.show 4096, 1\n.show 4288, 1\na: li r1, 4096\npinc r1, 0\nhalt\n\
 b: li r1, 4288\npinc r1, 0\nhalt\n";
 
 /// What `RAISE_APART` writes.
-const RAISED_APART: &[u8] = b"core 0 halt\ncore 1 halt\nmem 4096 1\nmem 4288 1\nstatus 0\n";
+pub(crate) const RAISED_APART: &[u8] =
+    b"core 0 halt\ncore 1 halt\nmem 4096 1\nmem 4288 1\nstatus 0\n";
 
 /// What a command came to, what it wrote, and the line of its fault.
 #[derive(Drop)]
