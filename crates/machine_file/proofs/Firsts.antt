@@ -1,14 +1,16 @@
 -- Facts on the first fault of a machine file, for the code that reads one.
-use Rattle.std.proofs.Common.{◌≡◌, ℕ, Bool, true, false, ◌&&◌, Option, Some, None, refl, List, if◌then◌else◌, is_some, subst}
+use Rattle.std.proofs.Common.{◌≡◌, ℕ, ◌≤◌, nat_le, Bool, true, false, ◌&&◌, Option, Some, None, refl, List, [], ◌∷◌, if◌then◌else◌, is_some, subst}
+use Rattle.std.proofs.lemmas.Bool.{and_parts, leb-true}
+use Rattle.std.specs.List.{list_all, AllByRecursion}
 use Rattle.std.specs.Str.{is_utf8, IsUtf8}
 use Rattle.std.proofs.lemmas.Str.{IsUtf8-from_is_utf8}
 use Rattle.toml.specs.Data.{Members, no_members, member}
 use Rattle.toml.specs.Parse.{parse_document}
 use Rattle.machine_file.specs.declared.keys.Key.{Key}
 use Rattle.machine_file.specs.declared.keys.Key.TheVariants as key
-use Rattle.machine_file.specs.Keys.{row_of}
-use Rattle.machine_file.specs.Machine.{MachineRefusal, UnknownKey, table_of, unknown_key, each_key_known, is_known_key}
-use Rattle.pei_types.specs.Limits.{IsPowerOfTwo, log_two}
+use Rattle.machine_file.specs.Keys.{KeyRow, row_of}
+use Rattle.machine_file.specs.Machine.{MachineRefusal, UnknownKey, is_within, table_of, unknown_key, each_key_known, is_known_key}
+use Rattle.pei_types.specs.Limits.{IsWithin, IsPowerOfTwo, log_two}
 use Rattle.std.specs.Option.{option_or}
 
 -- bytes that are no table
@@ -27,6 +29,21 @@ all_known (member text d rest) h = by_test (is_known_key text) h (all_known rest
     by_test : (b : Bool) → (if b then unknown_key rest else Some (UnknownKey text)) ≡ None → (unknown_key rest ≡ None → each_key_known rest ≡ true) → (b && each_key_known rest) ≡ true
     by_test true e more = more e
     by_test false e more = absurd (cc e)
+
+-- a number that passes the test is within the limits of its key, and above no bound
+module _ (r : KeyRow) (bounds : List ℕ) (n : ℕ) (h : is_within r bounds n ≡ true) where
+  parts : ((nat_le r.least n && nat_le n r.greatest) ≡ true) × (list_all (λ bound. nat_le n bound) bounds ≡ true)
+  parts = and_parts (nat_le r.least n && nat_le n r.greatest) (list_all (λ bound. nat_le n bound) bounds) h
+
+  pub limits_kept : IsWithin r.least r.greatest n
+  limits_kept = let own = and_parts (nat_le r.least n) (nat_le n r.greatest) parts.0 in (leb-true r.least n own.0, leb-true n r.greatest own.1)
+
+  pub bounds_kept : AllByRecursion (λ bound. n ≤ bound) bounds
+  bounds_kept = below bounds parts.1
+    where
+      below : (rest : List ℕ) → list_all (λ bound. nat_le n bound) rest ≡ true → AllByRecursion (λ bound. n ≤ bound) rest
+      below [] e = tt
+      below (bound ∷ rest) e = let both = and_parts (nat_le n bound) (list_all (λ b. nat_le n b) rest) e in (leb-true n bound both.0, below rest both.1)
 
 -- each default that is to be a power of two is one
 pub default_power : (k : Key) (n : ℕ) → (row_of k).default ≡ Some n → (row_of k).power_of_two ≡ true → IsPowerOfTwo n

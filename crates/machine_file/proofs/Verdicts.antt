@@ -1,57 +1,63 @@
 -- A table that describes a machine has no fault.
 use Rattle.std.proofs.lemmas.Bool.{le-leb, and_parts, and_from}
-use Rattle.std.proofs.Common.{◌≡◌, ℕ, nat_le, Bool, true, false, not, ◌&&◌, List, [], ◌∷◌, Option, Some, None, refl, sym, ◌∙◌, ap, subst, arith}
+use Rattle.std.proofs.Common.{◌≡◌, ℕ, nat_le, Bool, true, false, not, ◌&&◌, List, [], ◌∷◌, Option, Some, None, refl, sym, ◌∙◌, ap, map}
 use Rattle.std.specs.Prelude.{ℤ, pos, negsuc, find, is_none, option_map}
-use Rattle.std.specs.List.{AllByRecursion}
+use Rattle.std.specs.List.{AllByRecursion, list_all}
 use Rattle.std.specs.Option.{option_and_then, option_or}
 use Rattle.toml.specs.Data.{Data, Members, no_members, member, get_member, as_integer}
 use Rattle.machine_file.specs.Keys.{KeyRow, number_keys, placement_name, number_of}
-use Rattle.machine_file.specs.Machine.{MissingKey, Describes, DescribesOf, HaveTheSame, first_machine_fault, IsWithinLimits, table_fault, unknown_key, each_key_known, is_known_key, is_missing, missing_key, first_value_fault, value_fault, number_fault, size_fault, is_power_of_two, number_at, whole, policy_of, policy_fault}
-use Rattle.pei_types.specs.Limits.{IsWithin, IsPowerOfTwo, two_power_1}
+use Rattle.machine_file.specs.Machine.{MissingKey, Describes, DescribesOf, HaveTheSame, first_machine_fault, IsWithinLimits, table_fault, unknown_key, each_key_known, is_known_key, is_missing, missing_key, first_value_fault, bounds_at, value_fault, number_fault, size_fault, is_power_of_two, number_at, whole, policy_of, policy_fault}
+use Rattle.pei_types.specs.Limits.{IsWithin, IsPowerOfTwo}
 use Rattle.pei_types.specs.declared.machines.MachineSpec.{MachineSpec}
 
 -- ---- limits
 
-fine_size : (r : KeyRow) (n : ℕ) → IsWithin r.least r.greatest n → (r.power_of_two && not (is_power_of_two n)) ≡ false → size_fault r n ≡ None
-fine_size r n h k = rw (and_from (nat_le r.least n) (nat_le n r.greatest) (le-leb r.least n h.0) (le-leb n r.greatest h.1), k) refl
+fine_size : (r : KeyRow) (bounds : List ℕ) (n : ℕ) → IsWithin r.least r.greatest n → list_all (λ bound. nat_le n bound) bounds ≡ true
+    → (r.power_of_two && not (is_power_of_two n)) ≡ false → size_fault r bounds n ≡ None
+fine_size r bounds n h b k = rw (and_from (nat_le r.least n) (nat_le n r.greatest) (le-leb r.least n h.0) (le-leb n r.greatest h.1), b, k) refl
 
 fine_power : (n : ℕ) → IsPowerOfTwo n → not (is_power_of_two n) ≡ false
 fine_power n h = ap not h
 
 -- a number is as the row wants it
 IsFine : MachineSpec → KeyRow → Type 0
-IsFine m r = IsWithin r.least r.greatest (number_of m r.key) × ((r.power_of_two && not (is_power_of_two (number_of m r.key))) ≡ false)
+IsFine m r =
+    IsWithin r.least r.greatest (number_of m r.key)
+    × (list_all (λ bound. nat_le (number_of m r.key) bound) (map (number_of m) r.at_most) ≡ true)
+    × ((r.power_of_two && not (is_power_of_two (number_of m r.key))) ≡ false)
 
-one_bank : (n : ℕ) → IsWithin 1 1 n → IsPowerOfTwo n
-one_bank n h = let one : 1 ≡ n = omega (arith, h.0, h.1) in subst IsPowerOfTwo one two_power_1
+fine_banks : (m : MachineSpec) → list_all (λ bound. nat_le m.banks bound) (m.l1_sets ∷ m.llc_sets ∷ m.vaults ∷ []) ≡ true
+fine_banks m =
+    let limits = m.banks_in_limits
+    in rw (le-leb m.banks m.l1_sets limits.2, le-leb m.banks m.llc_sets limits.3, le-leb m.banks m.vaults limits.4) refl
 
 all_fine : (m : MachineSpec) → AllByRecursion (IsFine m) number_keys
 unfolding IsFine
 all_fine m = (
-  (m.cores_in_limits, refl),
+  (m.cores_in_limits, refl, refl),
   (
-    (m.blocks_in_limits, refl),
+    (m.blocks_in_limits, refl, refl),
     (
-      (m.l1_sets_in_limits.0, fine_power m.l1_sets m.l1_sets_in_limits.1),
+      (m.l1_sets_in_limits.0, refl, fine_power m.l1_sets m.l1_sets_in_limits.1),
       (
-        (m.l1_ways_in_limits, refl),
+        (m.l1_ways_in_limits, refl, refl),
         (
-          (m.llc_sets_in_limits.0, fine_power m.llc_sets m.llc_sets_in_limits.1),
+          (m.llc_sets_in_limits.0, refl, fine_power m.llc_sets m.llc_sets_in_limits.1),
           (
-            (m.llc_ways_in_limits, refl),
+            (m.llc_ways_in_limits, refl, refl),
             (
-              (m.vaults_in_limits.0, fine_power m.vaults m.vaults_in_limits.1),
+              (m.vaults_in_limits.0, refl, fine_power m.vaults m.vaults_in_limits.1),
               (
-                (m.queue_in_limits, refl),
+                (m.queue_in_limits, refl, refl),
                 (
-                  (m.directory_in_limits.0, fine_power m.directory m.directory_in_limits.1),
+                  (m.directory_in_limits.0, refl, fine_power m.directory m.directory_in_limits.1),
                   (
-                    (m.buffer_in_limits, refl),
+                    (m.buffer_in_limits, refl, refl),
                     (
-                      (m.banks_in_limits, fine_power m.banks (one_bank m.banks m.banks_in_limits)),
+                      (m.banks_in_limits.0, fine_banks m, fine_power m.banks m.banks_in_limits.1),
                       (
-                        (m.fuel_in_limits, refl),
-                        ((m.events_in_limits, refl), tt),
+                        (m.fuel_in_limits, refl, refl),
+                        ((m.events_in_limits, refl, refl), tt),
                       ),
                     ),
                   ),
@@ -65,10 +71,10 @@ all_fine m = (
   ),
 )
 
-fine_sizes : (m : MachineSpec) (rows : List KeyRow) → AllByRecursion (IsFine m) rows → AllByRecursion (λ r. size_fault r (number_of m r.key) ≡ None) rows
+fine_sizes : (m : MachineSpec) (rows : List KeyRow) → AllByRecursion (IsFine m) rows → AllByRecursion (λ r. size_fault r (map (number_of m) r.at_most) (number_of m r.key) ≡ None) rows
 unfolding IsFine
 fine_sizes m [] h = tt
-fine_sizes m (r ∷ rows) h = (fine_size r (number_of m r.key) h.0.0 h.0.1, fine_sizes m rows h.1)
+fine_sizes m (r ∷ rows) h = (fine_size r (map (number_of m) r.at_most) (number_of m r.key) h.0.0 h.0.1 h.0.2, fine_sizes m rows h.1)
 
 -- every machine is within the limits of the table
 pub within_limits : (m : MachineSpec) → IsWithinLimits m
@@ -103,25 +109,36 @@ module _ (table : Members) (m : MachineSpec) where
   whole_pos (pos k) n h = let same : k ≡ n = cc h in ap pos same
   whole_pos (negsuc k) n h = absurd (cc h)
 
-  fine_number : (r : KeyRow) (o : Option ℤ) (n : ℕ) → option_and_then whole o ≡ Some n → size_fault r n ≡ None → number_fault r o ≡ None
-  fine_number r None n h k = absurd (cc h)
-  fine_number r (Some z) n h k = ap (λ x. number_fault r (Some x)) (whole_pos z n h) ∙ k
+  fine_number : (r : KeyRow) (bounds : List ℕ) (o : Option ℤ) (n : ℕ) → option_and_then whole o ≡ Some n → size_fault r bounds n ≡ None → number_fault r bounds o ≡ None
+  fine_number r bounds None n h k = absurd (cc h)
+  fine_number r bounds (Some z) n h k = ap (λ x. number_fault r bounds (Some x)) (whole_pos z n h) ∙ k
 
-  fine_value : (r : KeyRow) (o : Option Data) (n : ℕ) → number_at r o ≡ Some n → size_fault r n ≡ None → value_fault r o ≡ None
-  fine_value r None n h k = refl
-  fine_value r (Some d) n h k = fine_number r (as_integer d) n h k
+  fine_value : (r : KeyRow) (bounds : List ℕ) (o : Option Data) (n : ℕ) → number_at r o ≡ Some n → size_fault r bounds n ≡ None → value_fault r bounds o ≡ None
+  fine_value r bounds None n h k = refl
+  fine_value r bounds (Some d) n h k = fine_number r bounds (as_integer d) n h k
 
-  fine_values : (rows : List KeyRow) → AllByRecursion Given rows → AllByRecursion (λ r. size_fault r (number_of m r.key) ≡ None) rows → first_value_fault table rows ≡ None
-  unfolding Given
-  fine_values [] h k = refl
-  fine_values (r ∷ rows) h k = rw (fine_value r (get_member r.name table) (number_of m r.key) h.0 k.0) (fine_values rows h.1 k.1)
+  -- the table's bounds of a row are the machine's
+  HasBounds : KeyRow → Type 0
+  HasBounds r = bounds_at table r.at_most ≡ map (number_of m) r.at_most
+
+  -- the sets of the private caches, those of the last-level cache and the vaults bound the banks
+  all_bounds : AllByRecursion Given number_keys → AllByRecursion HasBounds number_keys
+  unfolding Given HasBounds
+  all_bounds h = (refl, (refl, (refl, (refl, (refl, (refl, (refl, (refl, (refl, (refl, (rw (h.1.1.0, h.1.1.1.1.0, h.1.1.1.1.1.1.0) refl, (refl, (refl, tt)))))))))))))
+
+  fine_values : (rows : List KeyRow) → AllByRecursion Given rows → AllByRecursion HasBounds rows
+      → AllByRecursion (λ r. size_fault r (map (number_of m) r.at_most) (number_of m r.key) ≡ None) rows → first_value_fault table rows ≡ None
+  unfolding Given HasBounds
+  fine_values [] h b k = refl
+  fine_values (r ∷ rows) h b k =
+      rw (b.0, fine_value r (map (number_of m) r.at_most) (get_member r.name table) (number_of m r.key) h.0 k.0) (fine_values rows h.1 b.1 k.1)
 
   pub describes_well : Describes table m → table_fault table ≡ None
   unfolding Given
   describes_well d =
       ap (λ o. option_or o (option_or (missing_key table) (option_or (first_value_fault table number_keys) (policy_fault (policy_of (get_member placement_name table)))))) (no_unknown table d.known)
       ∙ ap (λ o. option_or (option_map (λ r. MissingKey r.key) o) (option_or (first_value_fault table number_keys) (policy_fault (policy_of (get_member placement_name table))))) (none_missing number_keys d.numbers)
-      ∙ ap (λ o. option_or o (policy_fault (policy_of (get_member placement_name table)))) (fine_values number_keys d.numbers (within_limits m))
+      ∙ ap (λ o. option_or o (policy_fault (policy_of (get_member placement_name table)))) (fine_values number_keys d.numbers (all_bounds d.numbers) (within_limits m))
       ∙ ap policy_fault d.placement
 
 -- nor has a file that describes one

@@ -1,12 +1,12 @@
 -- What a machine file means: the machine of its table, or its first fault.
-use Rattle.std.specs.Prelude.{◌≡◌, ℕ, ◌^◌, ℤ, pos, negsuc, Bool, true, not, ◌&&◌, ◌||◌, ◌==◌, nat_le, if◌then◌else◌, List, [], ◌∷◌, find, Option, Some, None, is_none, option_map, option_and_then, IfSome, IsSomeAnd, IsTrue, codes}
-use Rattle.std.specs.List.{list_any, AllByRecursion}
+use Rattle.std.specs.Prelude.{◌≡◌, ℕ, ◌^◌, ℤ, pos, negsuc, Bool, true, not, ◌&&◌, ◌||◌, ◌==◌, nat_le, if◌then◌else◌, List, [], ◌∷◌, find, Option, Some, None, is_none, map, option_map, option_and_then, IfSome, IsSomeAnd, IsTrue, codes}
+use Rattle.std.specs.List.{list_all, list_any, filter_map, AllByRecursion}
 use Rattle.std.specs.Option.{option_or}
 use Rattle.std.specs.Str.{bytes_eq, is_utf8}
 use Rattle.toml.specs.Data.{Data, Members, no_members, member, get_member, as_integer, as_str}
 use Rattle.toml.specs.Parse.{parse_document}
 use Rattle.machine_file.specs.declared.keys.Key.{Key}
-use Rattle.machine_file.specs.Keys.{KeyRow, number_keys, placement_name, number_of}
+use Rattle.machine_file.specs.Keys.{KeyRow, row_of, number_keys, placement_name, number_of}
 use Rattle.pei_types.specs.Limits.{log_two}
 use Rattle.pei_types.specs.declared.machines.MachineSpec.{MachineSpec}
 use Rattle.pei_types.specs.declared.machines.Policy3.{Policy3}
@@ -24,27 +24,43 @@ pub data MachineRefusal : Type 0 where
 
 -- ---- numbers
 
-abbrev pub is_within : KeyRow → ℕ → Bool
-is_within r n = nat_le r.least n && nat_le n r.greatest
+-- the number is from the row's least to its greatest, and above none of the bounds
+abbrev pub is_within : KeyRow → List ℕ → ℕ → Bool
+is_within r bounds n = (nat_le r.least n && nat_le n r.greatest) && list_all (λ bound. nat_le n bound) bounds
 
 abbrev pub is_power_of_two : ℕ → Bool
 is_power_of_two n = 2 ^ log_two n == n
 
--- what is wrong with a number for a key: outside the limits, or no power of two where it is to be one
-abbrev pub size_fault : KeyRow → ℕ → Option MachineRefusal
-size_fault r n =
-    if not (is_within r n) then Some (OutOfLimits r.key)
+-- What is wrong with a number for a key: outside the limits, or no power of two where it is to be one. The bounds are the
+-- numbers of the keys that bound it.
+abbrev pub size_fault : KeyRow → List ℕ → ℕ → Option MachineRefusal
+size_fault r bounds n =
+    if not (is_within r bounds n) then Some (OutOfLimits r.key)
     else (if r.power_of_two && not (is_power_of_two n) then Some (NotPowerOfTwo r.key) else None)
 
-abbrev pub number_fault : KeyRow → Option ℤ → Option MachineRefusal
-number_fault r None = Some (NotInteger r.key)
-number_fault r (Some (pos n)) = size_fault r n
-number_fault r (Some (negsuc n)) = Some (OutOfLimits r.key)
+abbrev pub number_fault : KeyRow → List ℕ → Option ℤ → Option MachineRefusal
+number_fault r bounds None = Some (NotInteger r.key)
+number_fault r bounds (Some (pos n)) = size_fault r bounds n
+number_fault r bounds (Some (negsuc n)) = Some (OutOfLimits r.key)
 
 -- a key that the file does not name has no such fault
-abbrev pub value_fault : KeyRow → Option Data → Option MachineRefusal
-value_fault r None = None
-value_fault r (Some d) = number_fault r (as_integer d)
+abbrev pub value_fault : KeyRow → List ℕ → Option Data → Option MachineRefusal
+value_fault r bounds None = None
+value_fault r bounds (Some d) = number_fault r bounds (as_integer d)
+
+-- the number that is a whole number from 0 on
+abbrev pub whole : ℤ → Option ℕ
+whole (pos n) = Some n
+whole (negsuc n) = None
+
+-- the number that a file gives for a key, or else the default
+abbrev pub number_at : KeyRow → Option Data → Option ℕ
+number_at r None = r.default
+number_at r (Some d) = option_and_then whole (as_integer d)
+
+-- the numbers that a table has for these keys, by itself or by default; one without a number bounds nothing
+abbrev pub bounds_at : Members → List Key → List ℕ
+bounds_at table keys = filter_map (λ k. number_at (row_of k) (get_member (row_of k).name table)) keys
 
 -- ---- the placement
 
@@ -83,7 +99,8 @@ missing_key table = option_map (λ r. MissingKey r.key) (find (is_missing table)
 
 abbrev pub first_value_fault : Members → List KeyRow → Option MachineRefusal
 first_value_fault table [] = None
-first_value_fault table (r ∷ rows) = option_or (value_fault r (get_member r.name table)) (first_value_fault table rows)
+first_value_fault table (r ∷ rows) =
+    option_or (value_fault r (bounds_at table r.at_most) (get_member r.name table)) (first_value_fault table rows)
 
 -- ---- the first fault
 
@@ -108,16 +125,6 @@ abbrev pub file_fault : List ℕ → Option MachineRefusal
 file_fault bytes = first_machine_fault (table_of bytes)
 
 -- ---- the machine
-
--- the number that is a whole number from 0 on
-abbrev pub whole : ℤ → Option ℕ
-whole (pos n) = Some n
-whole (negsuc n) = None
-
--- the number that a file gives for a key, or else the default
-abbrev pub number_at : KeyRow → Option Data → Option ℕ
-number_at r None = r.default
-number_at r (Some d) = option_and_then whole (as_integer d)
 
 -- each key is known
 abbrev pub each_key_known : Members → Bool
@@ -154,4 +161,4 @@ pub record IsBuiltIn (cores : ℕ) (m : MachineSpec) : Type 0 where
 
 -- the numbers of a machine are within the limits of the table
 abbrev pub IsWithinLimits : MachineSpec → Type 0
-IsWithinLimits m = AllByRecursion (λ r. size_fault r (number_of m r.key) ≡ None) number_keys
+IsWithinLimits m = AllByRecursion (λ r. size_fault r (map (number_of m) r.at_most) (number_of m r.key) ≡ None) number_keys

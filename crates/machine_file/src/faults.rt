@@ -14,7 +14,8 @@ pub enum MachineFault {
     MissingKey { key: Key },
     /// The value at the key is no integer.
     NotInteger { key: Key },
-    /// The number at the key is below its least or above its greatest.
+    /// The number at the key is below its least or above its greatest, or there are more banks than sets in a private cache,
+    /// sets in the last-level cache, or vaults.
     OutOfLimits { key: Key },
     /// The number at the key is no power of two, where it is to be one.
     NotPowerOfTwo { key: Key },

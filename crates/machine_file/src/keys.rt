@@ -26,7 +26,7 @@ pub enum Key {
     Directory,
     /// Entries of a core's operand buffer.
     Buffer,
-    /// Banks, of which there is one so far.
+    /// Banks that the blocks may be split over.
     Banks,
     /// Instructions that a core retires at most.
     Fuel,
@@ -55,7 +55,7 @@ pub(crate) const NUMBER_KEYS: [Key; 13] = [
 
 /// A row of the table: the name of a key in a file, the least and the greatest number that it takes, the number that
 /// stands where a file does not name it (none for a key that a file has to name), and whether it takes powers of two
-/// alone.
+/// alone. That other keys' numbers bound `banks` too is seen to where a file is read.
 #[derive(Clone, Copy)]
 pub(crate) struct KeyRow {
     pub name: &'static str,
@@ -82,19 +82,19 @@ fn any_number(name: &'static str, least: u32, greatest: u32, default: Option<u32
     }
 }
 
-/// A row for a power of two, whose default is the greatest.
-fn power(name: &'static str, least: u32, greatest: u32) -> KeyRow
+/// A row for a power of two.
+fn power(name: &'static str, least: u32, greatest: u32, default: u32) -> KeyRow
     ensures name { result.name.now ≡ name.now }
     ensures least { result.least ≡ least }
     ensures greatest { result.greatest ≡ greatest }
-    ensures default { result.default ≡ Some greatest }
+    ensures default { result.default ≡ Some default }
     ensures power_of_two { result.power_of_two ≡ true }
 {
     KeyRow {
         name,
         least,
         greatest,
-        default: Some(greatest),
+        default: Some(default),
         power_of_two: true,
     }
 }
@@ -111,15 +111,15 @@ impl Key {
         match self {
             Key::Cores => any_number("cores", 1, 8, None),
             Key::Blocks => any_number("blocks", 16, 65_536, None),
-            Key::L1Sets => power("l1_sets", 1, 64),
+            Key::L1Sets => power("l1_sets", 1, 64, 64),
             Key::L1Ways => any_number("l1_ways", 1, 8, Some(4)),
-            Key::LlcSets => power("llc_sets", 1, 1024),
+            Key::LlcSets => power("llc_sets", 1, 1024, 1024),
             Key::LlcWays => any_number("llc_ways", 1, 16, Some(16)),
-            Key::Vaults => power("vaults", 1, 16),
+            Key::Vaults => power("vaults", 1, 16, 16),
             Key::Queue => any_number("queue", 1, 16, Some(16)),
-            Key::Directory => power("directory", 2, 2048),
+            Key::Directory => power("directory", 2, 2048, 2048),
             Key::Buffer => any_number("buffer", 1, 4, Some(4)),
-            Key::Banks => power("banks", 1, 1),
+            Key::Banks => power("banks", 1, 8, 1),
             Key::Fuel => any_number("fuel", 1, 1_000_000, Some(100_000)),
             Key::Events => any_number("events", 64, 1_048_576, Some(524_288)),
             Key::Placement => any_number("placement", 0, 0, None),

@@ -1,7 +1,7 @@
 //! Reading machine files.
 
-ghost use Rattle.std.specs.Prelude.{◌≡◌, None, Some, IfSome, IfOk, IfErr, IsTrue, pos, option_map, is_some, map, find, true, false};
-ghost use Rattle.std.specs.List.{list_any};
+ghost use Rattle.std.specs.Prelude.{◌≡◌, ◌≤◌, nat_le, None, Some, IfSome, IfOk, IfErr, IsTrue, pos, option_map, is_some, map, find, true, false};
+ghost use Rattle.std.specs.List.{list_all, list_any, AllByRecursion};
 ghost use Rattle.std.specs.Option.{option_or};
 ghost use Rattle.std.specs.Str.{bytes_eq};
 ghost use Rattle.toml.specs.Data.{get_member};
@@ -118,22 +118,38 @@ fn is_power(number: u32) -> bool
     number > 0 && 2u32.pow(number.ilog2()) == number
 }
 
-/// The number for a key that is this integer, if it is one.
-fn sized(key: Key, integer: Option<i64>) -> Result<u32, MachineFault>
+/// Whether a number is above none of these.
+fn is_at_most(number: u32, bounds: &[u32]) -> bool
+    ensures { result ≡ list_all (λ bound. nat_le number bound) bounds.now }
+{
+    bounds.iter().all(|bound| number <= *bound)
+}
+
+/// Whether a number is within the limits of a key, and above none of the bounds.
+fn is_within(key: Key, bounds: &[u32], number: u32) -> bool
+    ensures { result ≡ spec.is_within (row_of key) bounds.now number }
+{
+    let row = key.row();
+    row.least <= number && number <= row.greatest && is_at_most(number, bounds)
+}
+
+/// The number for a key that is this integer, if it is one. The bounds are the numbers of the keys that bound it.
+#[tactic(auto, using(crate::proofs::Firsts::limits_kept, crate::proofs::Firsts::bounds_kept))]
+fn sized(key: Key, bounds: &[u32], integer: Option<i64>) -> Result<u32, MachineFault>
     ensures ok { IfOk result (λ n. integer ≡ Some (pos n)) }
     ensures within { IfOk result (λ n. IsWithin (row_of key).least (row_of key).greatest n) }
+    ensures bounded { IfOk result (λ n. AllByRecursion (λ bound. n ≤ bound) bounds.now) }
     ensures power { IfOk result (λ n. IsTrue (row_of key).power_of_two → IsPowerOfTwo n) }
-    ensures fine { IfOk result (λ n. spec.number_fault (row_of key) integer ≡ None) }
+    ensures fine { IfOk result (λ n. spec.number_fault (row_of key) bounds.now integer ≡ None) }
     ensures told { IfErr result (λ f. is_some (refusal_of f) ≡ true) }
-    ensures fault { IfErr result (λ f. spec.number_fault (row_of key) integer ≡ refusal_of f) }
+    ensures fault { IfErr result (λ f. spec.number_fault (row_of key) bounds.now integer ≡ refusal_of f) }
 {
     let Some(integer) = integer else {
         return Err(MachineFault::NotInteger { key });
     };
-    let row = key.row();
     match u32::try_from(integer) {
-        Ok(number) if row.least <= number && number <= row.greatest => {
-            if row.power_of_two && !is_power(number) {
+        Ok(number) if is_within(key, bounds, number) => {
+            if key.row().power_of_two && !is_power(number) {
                 Err(MachineFault::NotPowerOfTwo { key })
             } else {
                 Ok(number)
@@ -143,18 +159,20 @@ fn sized(key: Key, integer: Option<i64>) -> Result<u32, MachineFault>
     }
 }
 
-/// The number that the table gives for a key, or else its default.
-fn number(table: &Table, key: Key) -> Result<u32, MachineFault>
-    requires { spec.is_missing (table_view table.now) (row_of key) ≡ false }
+/// The number that the table gives for a key, or else its default, which is above none of the bounds.
+fn number(table: &Table, key: Key, bounds: &[u32]) -> Result<u32, MachineFault>
+    requires found { spec.is_missing (table_view table.now) (row_of key) ≡ false }
+    requires by_default { IfSome (row_of key).default (λ n. AllByRecursion (λ bound. n ≤ bound) bounds.now) }
     ensures ok { IfOk result (λ n. spec.number_at (row_of key) (get_member (row_of key).name (table_view table.now)) ≡ Some n) }
     ensures within { IfOk result (λ n. IsWithin (row_of key).least (row_of key).greatest n) }
+    ensures bounded { IfOk result (λ n. AllByRecursion (λ bound. n ≤ bound) bounds.now) }
     ensures power { IfOk result (λ n. IsTrue (row_of key).power_of_two → IsPowerOfTwo n) }
-    ensures fine { IfOk result (λ n. spec.value_fault (row_of key) (get_member (row_of key).name (table_view table.now)) ≡ None) }
+    ensures fine { IfOk result (λ n. spec.value_fault (row_of key) bounds.now (get_member (row_of key).name (table_view table.now)) ≡ None) }
     ensures told { IfErr result (λ f. is_some (refusal_of f) ≡ true) }
-    ensures fault { IfErr result (λ f. spec.value_fault (row_of key) (get_member (row_of key).name (table_view table.now)) ≡ refusal_of f) }
+    ensures fault { IfErr result (λ f. spec.value_fault (row_of key) bounds.now (get_member (row_of key).name (table_view table.now)) ≡ refusal_of f) }
 {
     match value_at(table, key) {
-        Some(value) => sized(key, value.as_integer()),
+        Some(value) => sized(key, bounds, value.as_integer()),
         None => match key.row().default {
             Some(default) => Ok(default),
             None => Err(MachineFault::MissingKey { key }),
@@ -192,19 +210,19 @@ fn machine_of(table: &Table) -> Result<MachineSpec, MachineFault>
     ensures placement { IfOk result (λ m. spec.policy_of (get_member placement_name (table_view table.now)) ≡ Some m.placement) }
     ensures fault { IfErr result (λ f. option_or (spec.first_value_fault (table_view table.now) number_keys) (spec.policy_fault (spec.policy_of (get_member placement_name (table_view table.now)))) ≡ refusal_of f) }
 {
-    let cores = number(table, Key::Cores)?;
-    let blocks = number(table, Key::Blocks)?;
-    let l1_sets = number(table, Key::L1Sets)?;
-    let l1_ways = number(table, Key::L1Ways)?;
-    let llc_sets = number(table, Key::LlcSets)?;
-    let llc_ways = number(table, Key::LlcWays)?;
-    let vaults = number(table, Key::Vaults)?;
-    let queue = number(table, Key::Queue)?;
-    let directory = number(table, Key::Directory)?;
-    let buffer = number(table, Key::Buffer)?;
-    let banks = number(table, Key::Banks)?;
-    let fuel = number(table, Key::Fuel)?;
-    let events = number(table, Key::Events)?;
+    let cores = number(table, Key::Cores, &[])?;
+    let blocks = number(table, Key::Blocks, &[])?;
+    let l1_sets = number(table, Key::L1Sets, &[])?;
+    let l1_ways = number(table, Key::L1Ways, &[])?;
+    let llc_sets = number(table, Key::LlcSets, &[])?;
+    let llc_ways = number(table, Key::LlcWays, &[])?;
+    let vaults = number(table, Key::Vaults, &[])?;
+    let queue = number(table, Key::Queue, &[])?;
+    let directory = number(table, Key::Directory, &[])?;
+    let buffer = number(table, Key::Buffer, &[])?;
+    let banks = number(table, Key::Banks, &[l1_sets, llc_sets, vaults])?;
+    let fuel = number(table, Key::Fuel, &[])?;
+    let events = number(table, Key::Events, &[])?;
     let placement = placement(table).ok_or(MachineFault::BadPolicy)?;
     Ok(MachineSpec {
         cores: cores as u8,

@@ -5,7 +5,7 @@ use pei_types::{MachineSpec, Policy3};
 use std::test::Fail;
 
 /// Files, each with the kind of its fault and the key that the fault names, if it names one.
-const FAULTS: [(&[u8], &str, &str); 56] = [
+const FAULTS: [(&[u8], &str, &str); 63] = [
     (b"cores = ", "BadToml", ""),
     (b"cores = 1\ncores = 1", "BadToml", ""),
     (
@@ -88,10 +88,31 @@ const FAULTS: [(&[u8], &str, &str); 56] = [
         "OutOfLimits",
         "buffer",
     ),
+    (b"cores = 1\nblocks = 64\nbanks = 0", "OutOfLimits", "banks"),
     (
-        b"cores = 1\nblocks = 128\nbanks = 2",
+        b"cores = 1\nblocks = 64\nbanks = 16",
         "OutOfLimits",
         "banks",
+    ),
+    (
+        b"cores = 1\nblocks = 64\nbanks = 3\nl1_sets = 2",
+        "OutOfLimits",
+        "banks",
+    ),
+    (
+        b"cores = 1\nblocks = 64\nbanks = 8\nllc_sets = 4",
+        "OutOfLimits",
+        "banks",
+    ),
+    (
+        b"cores = 1\nblocks = 64\nbanks = 8\nvaults = 4",
+        "OutOfLimits",
+        "banks",
+    ),
+    (
+        b"cores = 1\nblocks = 64\nbanks = 8\nvaults = 17",
+        "OutOfLimits",
+        "vaults",
     ),
     (
         b"cores = 1\nblocks = 64\nfuel = 1000001",
@@ -117,6 +138,16 @@ const FAULTS: [(&[u8], &str, &str); 56] = [
         b"cores = 1\nblocks = 64\ndirectory = 3",
         "NotPowerOfTwo",
         "directory",
+    ),
+    (
+        b"cores = 1\nblocks = 64\nbanks = 3",
+        "NotPowerOfTwo",
+        "banks",
+    ),
+    (
+        b"cores = 1\nblocks = 64\nbanks = 3\nl1_sets = 4\nvaults = 4",
+        "NotPowerOfTwo",
+        "banks",
     ),
     (
         b"cores = 1\nblocks = 64\nplacement = \"Host\"",
@@ -179,6 +210,18 @@ fn cores_and_blocks_alone_give_the_defaults(rt: HostRuntime) -> Result<(), Fail>
 }
 
 #[test]
+fn banks_are_taken_up_to_their_bounds(rt: HostRuntime) -> Result<(), Fail> {
+    let two = described(&rt, b"cores = 1\nblocks = 128\nbanks = 2")?;
+    assert_eq!(rt; (two.banks, two.blocks, two.vaults), (2, 128, 16));
+    let four = described(
+        &rt,
+        b"cores = 1\nblocks = 64\nvaults = 4\nbanks = 4\nllc_sets = 4\nl1_sets = 4",
+    )?;
+    assert_eq!(rt; four.banks, 4);
+    Ok(())
+}
+
+#[test]
 fn each_end_of_the_limits_is_taken(rt: HostRuntime) -> Result<(), Fail> {
     let least = described(
         &rt,
@@ -199,13 +242,16 @@ fn each_end_of_the_limits_is_taken(rt: HostRuntime) -> Result<(), Fail> {
     assert_eq!(rt; least.placement, Policy3::Host);
     let greatest = described(
         &rt,
-        b"cores = 8\nblocks = 65_536\nl1_sets = 64\nl1_ways = 8\nllc_sets = 1024\nllc_ways = 16\nvaults = 16\nqueue = 16\ndirectory = 2048\nbuffer = 4\nfuel = 1000000\nevents = 1048576\nplacement = \"memory\"",
+        b"cores = 8\nblocks = 65_536\nl1_sets = 64\nl1_ways = 8\nllc_sets = 1024\nllc_ways = 16\nvaults = 16\nqueue = 16\ndirectory = 2048\nbuffer = 4\nbanks = 8\nfuel = 1000000\nevents = 1048576\nplacement = \"memory\"",
     )?;
     assert_eq!(rt;
         (greatest.cores, greatest.blocks, greatest.l1_ways),
         (8, 65_536, 8)
     );
-    assert_eq!(rt; (greatest.fuel, greatest.events), (1_000_000, 1_048_576));
+    assert_eq!(rt;
+        (greatest.banks, greatest.fuel, greatest.events),
+        (8, 1_000_000, 1_048_576)
+    );
     assert_eq!(rt; greatest.placement, Policy3::Memory);
     Ok(())
 }

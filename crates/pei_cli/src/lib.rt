@@ -21,6 +21,8 @@ pub use serving::plain;
 pub use trace_check::Verdict;
 
 #[cfg(test)]
+mod bank_tests;
+#[cfg(test)]
 mod check_tests;
 #[cfg(test)]
 mod litmus_tests;

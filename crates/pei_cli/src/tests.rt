@@ -51,12 +51,13 @@ const RAISE_HUNDRED: &[u8] =
 bne r2, r0, loop\npfence\nhalt\n";
 
 /// Two cores raise words of two blocks, 64 and 67.
-const RAISE_APART: &[u8] =
+pub(crate) const RAISE_APART: &[u8] =
     b".entry 0, a\n.entry 1, b\n.show 4096, 1\n.show 4288, 1\na: li r1, 4096\npinc r1, 0\nhalt\n\
 b: li r1, 4288\npinc r1, 0\nhalt\n";
 
 /// What `RAISE_APART` writes.
-const RAISED_APART: &[u8] = b"core 0 halt\ncore 1 halt\nmem 4096 1\nmem 4288 1\nstatus 0\n";
+pub(crate) const RAISED_APART: &[u8] =
+    b"core 0 halt\ncore 1 halt\nmem 4096 1\nmem 4288 1\nstatus 0\n";
 
 /// What a command came to, what it wrote, and the line of its fault.
 #[derive(Drop)]
@@ -147,7 +148,7 @@ const ROW: Row = Row {
 /// With four entries of its operand buffer a core has five actors, so each of its turns but the first comes five turns
 /// behind the one before; with one entry, two turns. With two entries of the directory, blocks 64 and 67 share one, and the
 /// second core's PEI enters behind the first one's end.
-const REPORTED: [Row; 17] = [
+const REPORTED: [Row; 18] = [
     ROW,
     Row { most: 1, ..ROW },
     Row {
@@ -247,6 +248,11 @@ const REPORTED: [Row; 17] = [
         status: 5,
         events: Some(1),
         turns: Some(1),
+        ..ROW
+    },
+    Row {
+        command: "sched p m rr 1000",
+        machine: b"cores = 1\nblocks = 128\nbanks = 2\n",
         ..ROW
     },
     Row {
@@ -422,7 +428,7 @@ const REFUSED_MACHINES: [(&[u8], &str, u8, &str); 12] = [
     (RAISE, "'a b' = 1\n", 4, "machine bad UnknownKey a b\n"),
     (
         RAISE,
-        "cores = 1\nblocks = 128\nbanks = 2\n",
+        "cores = 1\nblocks = 128\nbanks = 16\n",
         4,
         "machine bad OutOfLimits banks\n",
     ),
