@@ -27,3 +27,4 @@ mod PartMoves
 mod BankRows
 mod BankSteps
 mod BankStarting
+pub mod Sent
