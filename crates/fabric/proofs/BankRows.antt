@@ -46,7 +46,6 @@ use Rattle.fabric.specs.Whole.{Whole, content_in}
 use Rattle.fabric.specs.declared.looks.CoreLook.{CoreLook}
 use Rattle.fabric.proofs.Rows.{FitsIn, kind_fits, lane_fits, load_fits, store_fits, no_entering}
 use Rattle.fabric.proofs.Stampings.{fresh_of, log_events}
-
 use Rattle.pei_types.specs.Operation.{CanApply, is_writer}
 use Rattle.pei_types.proofs.Identities.{makes_is}
 

@@ -1,5 +1,5 @@
 -- What one more event does to each look-up in a log.
-use Rattle.std.proofs.Common.{◌≡◌, ℕ, Bool, true, false, not, ◌&&◌, ◌||◌, if◌then◌else◌, List, [], ◌∷◌, ◌++◌, filter, find, Some, None, refl, sym, ◌∙◌, ap}
+use Rattle.std.proofs.Common.{◌≡◌, Bool, true, false, not, ◌&&◌, ◌||◌, if◌then◌else◌, List, [], ◌∷◌, ◌++◌, filter, find, Some, None, refl, sym, ◌∙◌, ap}
 use Rattle.std.specs.List.{cons_option}
 use Rattle.std.proofs.lemmas.List.{append-nil}
 use Rattle.std.proofs.lemmas.List.Folds.{find-append}
@@ -7,10 +7,8 @@ use Rattle.std.proofs.lemmas.List.Elements.{filter_agree}
 use Rattle.std.proofs.Math.Bool.{or-false}
 use Rattle.pei_types.specs.declared.identifiers.PeiId.{PeiId}
 use Rattle.pei_types.specs.declared.events.Event.{Event}
-use Rattle.pei_types.specs.declared.events.EventKind.{EventKind}
-use Rattle.pei_types.specs.declared.events.EventKind.TheVariants as event
 use Rattle.pei_types.specs.Blocks.{same_core, same_pei}
-use Rattle.pei_types.specs.History.{Pei, issued_peis, pei_issued_by, pei_of, phase_of, phase_after, is_about, seq_named, is_number, is_enter, is_act, is_leave, has_entered, has_acted, has_left, unfinished_peis}
+use Rattle.pei_types.specs.History.{Pei, issued_peis, pei_issued_by, pei_of, phase_of, phase_after, is_about, is_act, has_entered, has_acted, has_left, unfinished_peis}
 use Rattle.pei_types.proofs.Pushes.{issued_peis-push, phase_of-push}
 use Rattle.pei_types.proofs.Tests.{not-or}
 use Rattle.bank_laws.specs.Across.{enters, leaves}

@@ -1,11 +1,7 @@
 -- Facts on lists: members, tests, filters and searches.
-use Rattle.std.proofs.Common.{◌≡◌, ◌⊎◌, inl, inr, Bool, true, false, ◌&&◌, ◌||◌, cond, List, [], ◌∷◌, ◌++◌, map, filter, find, Some, None, refl, sym, ◌∙◌, ap, subst}
-use Rattle.std.specs.List.{list_any, AllByRecursion}
-use Rattle.std.proofs.lemmas.List.Folds.{list_any-append}
-use Rattle.std.proofs.Math.Bool.{or-false}
-use Rattle.pei_types.proofs.Lists.{each_both, each_filter, each_passing, each_weaker, found_has, found_passes, none_pass}
+use Rattle.std.proofs.Common.{◌≡◌, inl, inr, Bool, true, false, ◌||◌, List, [], ◌∷◌, refl, sym, ◌∙◌, ap}
+use Rattle.std.specs.List.{list_any}
 use Rattle.history_laws.specs.Members.{In}
-use Rattle.history_laws.proofs.Lists.{each_of, each_in}
 
 -- what passes a filter passed its test
 -- a test passes on some item

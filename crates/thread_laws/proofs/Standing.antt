@@ -50,7 +50,7 @@ use Rattle.thread_laws.proofs.Lanes.{paired}
 use Rattle.thread_laws.proofs.Meeting.{were_issued, look_meets}
 use Rattle.thread_laws.proofs.Own.{have_names}
 use Rattle.history_laws.proofs.Lists.{each_of, each_in, find_Some}
-use Rattle.bank_laws.proofs.Histories.{first_or, rest_of, firsts, rests, placed_none}
+use Rattle.bank_laws.proofs.Histories.{firsts, rests, placed_none}
 
 -- an event stands where it stood, with more PEIs
 stands_weaker : (m : MachineSpec) (k : ℕ) (Has Other : PeiId → Type 0) → ((id : PeiId) → Has id → Other id) → (a : Actor) (kind : EventKind) → Stands m k Has a kind → Stands m k Other a kind
