@@ -1,0 +1,11 @@
+pub mod Digits
+pub mod Lexing
+pub mod Fronts
+pub mod Lookups
+pub mod Agendas
+pub mod Steps
+pub mod Continuing
+pub mod Phrases
+pub mod Stacked
+pub mod Bodies
+pub mod Whole

@@ -1,0 +1,16 @@
+use Rattle.std.proofs.Common.{sym, ap, ◌∙◌}
+use Rattle.kernel_text.specs.Reading.{a_kernel}
+use Rattle.kernel_text.specs.Views.{kernel_of}
+use Rattle.kernel_text.specs.Built.{tokens_in, continues}
+use Rattle.kernel_text.proofs.Whole.{spells, never_misfits}
+use Rattle.kernel_text.proofs.parsing.parse.Goals as goal
+
+pub returns-in-Ok-clause-ok : goal.returns-in-Ok-clause-ok
+returns-in-Ok-clause-ok c =
+    spells c.args.text.now c.in_ok-tokens.tokens.items.items (kernel_of c.in-Ok.tree) c.in_ok-tokens.ensures.tokens (ap tokens_in (sym c.as_slice.ensures.value) ∙ c.in-Ok.ensures.spelled) c.in-Ok.ensures.grammar
+
+-- tokens without a fault have a tree
+pub unreachable-requires : goal.unreachable-requires
+unreachable-requires c =
+    never_misfits c.in_ok-tokens.tokens.end c.in_ok-tokens.tokens.items.items c.in_ok-check.ensures.ok
+    (ap (λ xs. continues (tokens_in xs) a_kernel) (sym c.as_slice.ensures.value) ∙ c.in-Err-Misfit.ensures.sticks c.in-Err-Misfit.field-0-is)

@@ -1,0 +1,14 @@
+pub mod Tokens
+pub mod Trees
+pub mod Views
+pub mod Grammar
+pub mod Characters
+pub mod Lexemes
+pub mod Reading
+pub mod Senses
+pub mod Known
+pub mod Faults
+pub mod Fitting
+pub mod Built
+pub mod Beginnings
+pub mod Examples
