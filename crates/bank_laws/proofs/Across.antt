@@ -12,7 +12,7 @@ use Rattle.pei_types.specs.declared.events.EventKind.{EventKind}
 use Rattle.pei_types.specs.declared.events.EventKind.TheVariants as event
 use Rattle.pei_types.specs.declared.machines.MachineSpec.{MachineSpec}
 use Rattle.pei_types.specs.Blocks.{same_core, same_pei}
-use Rattle.pei_types.specs.Coherence.{pei_id}
+use Rattle.pei_types.specs.MachineState.{pei_id}
 use Rattle.pei_types.specs.Exclusion.{EntersAlone, conflicts}
 use Rattle.pei_types.specs.Fence.{FencesEarlier, earlier_writers_left}
 use Rattle.pei_types.specs.History.{Pei, issued_peis, pei_issued_by, pei_of, has_entered, has_left, unfinished_peis, active_peis, begins_fence, ends_fence, before_fence, is_enter}

@@ -24,7 +24,7 @@ use Rattle.pei_types.specs.declared.events.EventKind.{EventKind}
 use Rattle.pei_types.specs.declared.events.EventKind.TheVariants as event
 use Rattle.pei_types.specs.declared.machines.MachineSpec.{MachineSpec}
 use Rattle.pei_types.specs.Blocks.{same_pei}
-use Rattle.pei_types.specs.Coherence.{State, state_after, free_lane, first_unentered, first_unfinished, fence_of, look_in, look_of, pei_id, entry_is_taken}
+use Rattle.pei_types.specs.MachineState.{State, state_after, free_lane, first_unentered, first_unfinished, fence_of, look_in, look_of, pei_id, entry_is_taken}
 use Rattle.pei_types.specs.Core.{CoreNext, Calls, Busy, Ended}
 use Rattle.pei_types.specs.FlatMemory.{flat_block}
 use Rattle.pei_types.specs.Guard.{pei_guard, is_pei, is_lane, waits_for_none}
@@ -37,11 +37,11 @@ use Rattle.pei_types.proofs.Identities.{makes_is, same_lane_is}
 use Rattle.pei_types.proofs.Tests.{none_is}
 use Rattle.history_laws.specs.Laws.{AgreementTells}
 use Rattle.history_laws.specs.Sound.{IssuesUnfenced}
-use Rattle.history_laws.specs.Tracking.{Agrees}
+use Rattle.history_laws.specs.TrackedPeis.{Agrees}
 use Rattle.coherence_laws.specs.Invariants.{Invariants}
 use Rattle.coherence_laws.specs.Laws.{LanesHoldPeis}
 use Rattle.machine_laws.specs.Laws.{MachineGoesOn}
-use Rattle.machine_laws.specs.Standing.{MachineInOrder}
+use Rattle.machine_laws.specs.InOrder.{MachineInOrder}
 use Rattle.bank_laws.specs.Banks.{HasBanks, Placed, EachPlaced, StandsRightly, bank_of, journal_of, log_of}
 use Rattle.bank_laws.specs.Parts.{SameInBank}
 use Rattle.bank_laws.specs.Rows.{IsGuardedWidely, GoesInSome, bank_look, program_turn_in, pei_turn_in, turn_in, without_waits}

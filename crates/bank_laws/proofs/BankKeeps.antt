@@ -29,7 +29,7 @@ use Rattle.pei_types.specs.declared.events.EventKind.TheVariants as event
 use Rattle.pei_types.specs.declared.machines.MachineSpec.{MachineSpec}
 use Rattle.pei_types.specs.Blocks.{same_core, same_lane, same_pei}
 use Rattle.pei_types.specs.Calls.{is_actor_of}
-use Rattle.pei_types.specs.Coherence.{State, start_state, next_state, state_after, look_in, look_of, letter_of, mark_of, is_i, is_phase, pei_id, in_phase, with_phase, with_l1_front, after_placing, after_reading, after_acting, after_acting_in, after_taking_back, unfinished_writers, without_l1_line, with_l1_shared}
+use Rattle.pei_types.specs.MachineState.{State, start_state, next_state, state_after, look_in, look_of, letter_of, mark_of, is_i, is_phase, pei_id, in_phase, with_phase, with_l1_front, after_placing, after_reading, after_acting, after_acting_in, after_taking_back, unfinished_writers, without_l1_line, with_l1_shared}
 use Rattle.pei_types.specs.Core.{CoreNext, Calls, Busy, Ended}
 use Rattle.pei_types.specs.FlatMemory.{flat_block}
 use Rattle.pei_types.specs.Guard.{guard}
@@ -42,7 +42,7 @@ use Rattle.pei_types.proofs.Identities.{makes_is, core_within, look_core, same_p
 use Rattle.pei_types.proofs.Lists.{each_weaker, each_map, each_append, none_pass}
 use Rattle.pei_types.proofs.Pushes.{state_after-push, flat_block-push, issued_peis-push}
 use Rattle.history_laws.specs.Fits.{EntersFree}
-use Rattle.history_laws.specs.Tracking.{as_issued}
+use Rattle.history_laws.specs.TrackedPeis.{as_issued}
 use Rattle.coherence_laws.specs.Data.{BlockHolds, next_flat}
 use Rattle.coherence_laws.specs.Holdings.{Holdings, data_of, held_copy, start_holdings, next_holdings}
 use Rattle.coherence_laws.specs.Invariants.{Invariants, IsAsIssued}

@@ -17,7 +17,7 @@ use Rattle.pei_types.specs.declared.events.Event.{Event}
 use Rattle.pei_types.specs.declared.events.EventKind.{EventKind}
 use Rattle.pei_types.specs.declared.machines.MachineSpec.{MachineSpec}
 use Rattle.pei_types.specs.Blocks.{block_of, same_core, same_lane}
-use Rattle.pei_types.specs.Coherence.{State, state_after, fence_of, free_lane, first_unentered, look_in, look_of, pei_id}
+use Rattle.pei_types.specs.MachineState.{State, state_after, fence_of, free_lane, first_unentered, look_in, look_of, pei_id}
 use Rattle.pei_types.specs.Core.{CoreNext, Calls, Busy, Ended, events_of, next_of_core}
 use Rattle.pei_types.specs.FlatMemory.{flat_block}
 use Rattle.pei_types.specs.Legal.{Legal, Meets}
@@ -29,10 +29,10 @@ use Rattle.pei_types.proofs.Lists.{found_passes}
 use Rattle.history_laws.specs.Laws.{AgreementTells}
 use Rattle.history_laws.specs.Members.{In}
 use Rattle.history_laws.specs.Sound.{GoesByRow}
-use Rattle.history_laws.specs.Tracking.{Agrees}
+use Rattle.history_laws.specs.TrackedPeis.{Agrees}
 use Rattle.coherence_laws.specs.Invariants.{Invariants, HasSets}
 use Rattle.coherence_laws.specs.Laws.{LanesHoldPeis}
-use Rattle.machine_laws.specs.Standing.{RunInOrder}
+use Rattle.machine_laws.specs.InOrder.{RunInOrder}
 use Rattle.bank_laws.specs.Banks.{HasBanks, Placed, EachPlaced, bank_of, journal_of, log_of}
 use Rattle.bank_laws.specs.Parts.{SameInBank, is_in_bank}
 use Rattle.bank_laws.specs.Rows.{IsCallOf, IsMadeIn, GoesInBank, MadeRightly, bank_look, program_turn_in, pei_turn_in, turn_in, without_waits}

@@ -14,7 +14,7 @@ use Rattle.pei_types.specs.declared.events.EventKind.{EventKind}
 use Rattle.pei_types.specs.declared.events.EventKind.TheVariants as event
 use Rattle.pei_types.specs.declared.machines.MachineSpec.{MachineSpec}
 use Rattle.pei_types.specs.Blocks.{block_of, same_block, same_core, vault_of}
-use Rattle.pei_types.specs.Coherence.{State, letter_of, is_i, is_owned, is_absent, is_clean, is_dirty, is_phase, none_has, none_owns, no_other_owns, cores_of, look_of, pei_id, writer_is_sealed, queue_is_full, is_line_of, is_llc_line_of, is_ahead}
+use Rattle.pei_types.specs.MachineState.{State, letter_of, is_i, is_owned, is_absent, is_clean, is_dirty, is_phase, none_has, none_owns, no_other_owns, cores_of, look_of, pei_id, writer_is_sealed, queue_is_full, is_line_of, is_llc_line_of, is_ahead}
 use Rattle.pei_types.specs.Guard.{guard, pei_guard, seal_guard, act_guard, is_pei, is_lane, memory_is_current}
 use Rattle.pei_types.specs.Operation.{is_writer}
 use Rattle.pei_types.specs.Recency.{has_room}

@@ -19,7 +19,7 @@ use Rattle.pei_types.specs.declared.inflight_looks.Phase.TheVariants as phase
 use Rattle.pei_types.specs.declared.events.EventKind.TheVariants as event
 use Rattle.pei_types.specs.declared.machines.MachineSpec.{MachineSpec}
 use Rattle.pei_types.specs.Blocks.{block_of, word_of, same_block, same_core, same_lane, llc_set_of, vault_of, tag_of}
-use Rattle.pei_types.specs.Coherence.{State, Line, LlcLine, letter_of, letter_in, mark_of, mark_in, is_line_of, is_llc_line_of, is_i, is_owned, is_absent, is_clean, is_dirty, is_phase, cores_of, lanes_of, free_lane, first_unentered, first_unfinished, conflict, queue_of, queue_is_full, llc_set, no_other_has}
+use Rattle.pei_types.specs.MachineState.{State, Line, LlcLine, letter_of, letter_in, mark_of, mark_in, is_line_of, is_llc_line_of, is_i, is_owned, is_absent, is_clean, is_dirty, is_phase, cores_of, lanes_of, free_lane, first_unentered, first_unfinished, conflict, queue_of, queue_is_full, llc_set, no_other_has}
 use Rattle.pei_types.specs.Guard.{letter_serves}
 use Rattle.pei_types.specs.Monitor.{placement}
 use Rattle.pei_types.specs.Next.{Makes, holder, other_holder, owner, other_owner, evict, bring_in, grant, grant_modify, grant_shared, make_room, l1_victim, want, race_or, load_row, store_row, issue_row, draining_or, call_row, enter_row, seal_writer, seal_reader, seal_row, act_kind, head_row, may_act, pei_row}

@@ -10,10 +10,10 @@ use Rattle.pei_types.specs.declared.events.EventKind.{EventKind}
 use Rattle.pei_types.specs.declared.events.EventKind.TheVariants as event
 use Rattle.pei_types.specs.declared.machines.MachineSpec.{MachineSpec}
 use Rattle.pei_types.specs.Blocks.{same_core}
-use Rattle.pei_types.specs.Coherence.{State, state_after, fence_of, unfinished_writers}
+use Rattle.pei_types.specs.MachineState.{State, state_after, fence_of, unfinished_writers}
 use Rattle.pei_types.specs.History.{pei_issued_by, begins_fence, ends_fence}
 use Rattle.pei_types.proofs.Pushes.{state_after-push}
-use Rattle.history_laws.specs.Tracking.{fence_is_on}
+use Rattle.history_laws.specs.TrackedPeis.{fence_is_on}
 use Rattle.bank_laws.specs.Rows.{bank_look, without_waits}
 use Rattle.bank_laws.proofs.Cores.{peis_after, fence_after}
 use Rattle.bank_laws.proofs.Histories.{journal_induction}

@@ -22,7 +22,7 @@ use Rattle.pei_types.specs.declared.events.EventKind.{EventKind}
 use Rattle.pei_types.specs.declared.events.EventKind.TheVariants as event
 use Rattle.pei_types.specs.declared.machines.MachineSpec.{MachineSpec}
 use Rattle.pei_types.specs.Blocks.{block_of, same_core, same_lane, same_pei}
-use Rattle.pei_types.specs.Coherence.{State, fence_of, free_lane, first_unentered, first_unfinished, look_of, look_in, is_phase, entry_is_taken, pei_id}
+use Rattle.pei_types.specs.MachineState.{State, fence_of, free_lane, first_unentered, first_unfinished, look_of, look_in, is_phase, entry_is_taken, pei_id}
 use Rattle.pei_types.specs.Core.{CoreNext, Calls, Busy, Ended}
 use Rattle.pei_types.specs.Exclusion.{EntersAlone, conflicts}
 use Rattle.pei_types.specs.Fence.{FencesEarlier, earlier_writers_left}
@@ -35,7 +35,7 @@ use Rattle.pei_types.proofs.Lists.{found_passes}
 use Rattle.history_laws.specs.Fits.{EntersFree}
 use Rattle.history_laws.specs.Laws.{AgreementTells}
 use Rattle.history_laws.specs.Members.{In}
-use Rattle.history_laws.specs.Tracking.{Agrees, as_issued, is_past_issue, fence_is_on, writers_awaited}
+use Rattle.history_laws.specs.TrackedPeis.{Agrees, as_issued, is_past_issue, fence_is_on, writers_awaited}
 use Rattle.coherence_laws.specs.Invariants.{Invariants, HasSets}
 use Rattle.coherence_laws.specs.Laws.{LanesHoldPeis}
 use Rattle.bank_laws.specs.Banks.{HasBanks, Stands, IsPeiOf, bank_of}

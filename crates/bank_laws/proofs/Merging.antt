@@ -6,7 +6,7 @@ use Rattle.pei_types.specs.declared.stamps.Stamped.{Stamped}
 use Rattle.pei_types.specs.declared.events.Event.{Event}
 use Rattle.pei_types.specs.declared.machines.MachineSpec.{MachineSpec}
 use Rattle.pei_types.specs.Calls.{is_actor_of}
-use Rattle.pei_types.specs.Coherence.{state_after}
+use Rattle.pei_types.specs.MachineState.{state_after}
 use Rattle.pei_types.specs.Exclusion.{EntersAlone}
 use Rattle.pei_types.specs.Fence.{FencesEarlier}
 use Rattle.pei_types.specs.Legal.{EachEvent}

@@ -15,7 +15,7 @@ use Rattle.pei_types.specs.declared.events.EventKind.{EventKind}
 use Rattle.pei_types.specs.declared.events.EventKind.TheVariants as event
 use Rattle.pei_types.specs.Blocks.{same_core, same_lane, same_pei}
 use Rattle.pei_types.specs.Calls.{FollowsPei, follows_phase}
-use Rattle.pei_types.specs.Coherence.{is_phase, pei_id}
+use Rattle.pei_types.specs.MachineState.{is_phase, pei_id}
 use Rattle.pei_types.specs.History.{Pei, issued_peis, pei_issued_by, pei_of, phase_of, phase_after, is_about, is_number, seq_named, is_enter, is_leave}
 use Rattle.pei_types.specs.Recency.{list_at}
 use Rattle.pei_types.proofs.Identities.{same_core_is, same_pei_is}

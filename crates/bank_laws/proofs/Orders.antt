@@ -10,14 +10,14 @@ use Rattle.pei_types.specs.declared.identifiers.CoreId.{CoreId}
 use Rattle.pei_types.specs.declared.identifiers.PeiId.{PeiId}
 use Rattle.pei_types.specs.declared.events.Event.{Event}
 use Rattle.pei_types.specs.declared.machines.MachineSpec.{MachineSpec}
-use Rattle.pei_types.specs.Coherence.{State, state_after, fence_of}
+use Rattle.pei_types.specs.MachineState.{State, state_after, fence_of}
 use Rattle.pei_types.specs.History.{Pei, issued_peis, pei_issued_by, has_left, unfinished_peis, begins_fence, before_fence}
 use Rattle.pei_types.specs.Operation.{is_writer}
 use Rattle.pei_types.specs.Recency.{list_at}
 use Rattle.pei_types.proofs.Lists.{each_weaker, each_append}
 use Rattle.pei_types.proofs.Pushes.{issued_peis-push}
 use Rattle.history_laws.specs.Members.{In}
-use Rattle.history_laws.specs.Tracking.{Agrees, as_issued, fence_is_on, writers_awaited}
+use Rattle.history_laws.specs.TrackedPeis.{Agrees, as_issued, fence_is_on, writers_awaited}
 use Rattle.coherence_laws.specs.Sets.{EachPair}
 use Rattle.bank_laws.specs.Banks.{journal_of}
 use Rattle.bank_laws.specs.Logs.{history_below, merged, AreStamped}

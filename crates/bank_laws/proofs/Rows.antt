@@ -11,7 +11,7 @@ use Rattle.pei_types.specs.declared.events.Event.{Event}
 use Rattle.pei_types.specs.declared.events.EventKind.{EventKind}
 use Rattle.pei_types.specs.declared.events.EventKind.TheVariants as event
 use Rattle.pei_types.specs.declared.machines.MachineSpec.{MachineSpec}
-use Rattle.pei_types.specs.Coherence.{State, state_after, look_in}
+use Rattle.pei_types.specs.MachineState.{State, state_after, look_in}
 use Rattle.pei_types.specs.Core.{CoreNext, events_of, next_of_core}
 use Rattle.pei_types.specs.Exclusion.{EntersAlone}
 use Rattle.pei_types.specs.Fence.{FencesEarlier}
@@ -26,10 +26,10 @@ use Rattle.history_laws.specs.Fits.{EntersFree}
 use Rattle.history_laws.specs.Laws.{AgreementTells}
 use Rattle.history_laws.specs.Members.{In}
 use Rattle.history_laws.specs.Sound.{GoesByRow}
-use Rattle.history_laws.specs.Tracking.{as_issued}
+use Rattle.history_laws.specs.TrackedPeis.{as_issued}
 use Rattle.coherence_laws.specs.Laws.{LanesHoldPeis}
 use Rattle.machine_laws.specs.Laws.{RowsMakeLegal}
-use Rattle.machine_laws.specs.Standing.{MachineInOrder, RunInOrder}
+use Rattle.machine_laws.specs.InOrder.{MachineInOrder, RunInOrder}
 use Rattle.bank_laws.specs.Banks.{HasBanks, Placed, EachPlaced, Stands, StandsRightly, IsPeiOf, bank_of, journal_of, log_of}
 use Rattle.bank_laws.specs.Parts.{SameInBank}
 use Rattle.bank_laws.specs.Rows.{IsMadeIn, GoesInBank, bank_look, turn_in}

@@ -19,7 +19,7 @@ use Rattle.pei_types.specs.declared.events.EventKind.{EventKind}
 use Rattle.pei_types.specs.declared.events.EventKind.TheVariants as event
 use Rattle.pei_types.specs.declared.machines.MachineSpec.{MachineSpec}
 use Rattle.pei_types.specs.Blocks.{block_of, word_of, same_pei, l1_set_of, vault_of}
-use Rattle.pei_types.specs.Coherence.{State, Line, LlcLine, letter_of, mark_of, is_i, is_owned, is_absent, is_dirty, is_clean, free_lane, first_unentered, first_unfinished, conflict, is_sealed, queue_of, queue_is_full, fence_of, l1_set, llc_set, no_other_has, pei_id}
+use Rattle.pei_types.specs.MachineState.{State, Line, LlcLine, letter_of, mark_of, is_i, is_owned, is_absent, is_dirty, is_clean, free_lane, first_unentered, first_unfinished, conflict, is_sealed, queue_of, queue_is_full, fence_of, l1_set, llc_set, no_other_has, pei_id}
 use Rattle.pei_types.specs.Core.{Calls}
 use Rattle.pei_types.specs.Guard.{letter_serves}
 use Rattle.pei_types.specs.Next.{Turn, Makes, Stalls, holder, other_holder, owner, other_owner, evict, bring_in, grant, grant_modify, grant_shared, make_room, l1_victim, want, race_or, issue_row, fence_row, draining_or, call_row, enter_row, seal_writer, seal_reader, seal_row, act_kind, head_row, may_act, pei_row}

@@ -9,7 +9,7 @@ use Rattle.pei_types.specs.declared.identifiers.PeiId.{PeiId}
 use Rattle.pei_types.specs.declared.inflight_looks.PeiLook.{PeiLook}
 use Rattle.pei_types.specs.declared.inflight_looks.Phase.TheVariants as phase
 use Rattle.pei_types.specs.declared.machines.MachineSpec.{MachineSpec}
-use Rattle.pei_types.specs.Coherence.{State, letter_of, mark_of, is_i, is_ahead, is_absent, is_clean, is_phase}
+use Rattle.pei_types.specs.MachineState.{State, letter_of, mark_of, is_i, is_ahead, is_absent, is_clean, is_phase}
 use Rattle.pei_types.specs.Recency.{list_at}
 use Rattle.history_laws.specs.Members.{In}
 use Rattle.coherence_laws.specs.Data.{DataHolds, BuffersHold}

@@ -17,7 +17,7 @@ use Rattle.pei_types.specs.declared.events.EventKind.{EventKind}
 use Rattle.pei_types.specs.declared.machines.MachineSpec.{MachineSpec}
 use Rattle.pei_types.specs.Blocks.{same_core}
 use Rattle.pei_types.specs.Calls.{is_actor_of}
-use Rattle.pei_types.specs.Coherence.{State, next_state, state_after, is_phase, is_i, letter_of, look_of, fence_of}
+use Rattle.pei_types.specs.MachineState.{State, next_state, state_after, is_phase, is_i, letter_of, look_of, fence_of}
 use Rattle.pei_types.specs.Core.{Calls, events_of}
 use Rattle.pei_types.specs.Ends.{IsComplete, end_in}
 use Rattle.pei_types.specs.Exclusion.{EntersAlone}
@@ -32,13 +32,13 @@ use Rattle.pei_types.specs.Operation.{is_writer}
 use Rattle.pei_types.specs.Program.{Listing, Contents}
 use Rattle.pei_types.specs.Recency.{list_at}
 use Rattle.history_laws.specs.Sound.{GoesByRow, IssuesUnfenced}
-use Rattle.history_laws.specs.Tracking.{fence_is_on}
+use Rattle.history_laws.specs.TrackedPeis.{fence_is_on}
 use Rattle.coherence_laws.specs.Holdings.{Holdings, bare_copy, bare_line, held_copy, start_holdings, next_holdings}
 use Rattle.coherence_laws.specs.Invariants.{HasSets, HasSizes}
 use Rattle.coherence_laws.specs.Laws.{IsNoRace}
 use Rattle.coherence_laws.specs.Sets.{Each}
 use Rattle.machine_laws.specs.Memory.{HoldsMemory, seen_block}
-use Rattle.machine_laws.specs.Standing.{MachineInOrder}
+use Rattle.machine_laws.specs.InOrder.{MachineInOrder}
 use Rattle.history_laws.specs.Members.{In}
 use Rattle.bank_laws.specs.Banks.{HasBanks, Placed, EachPlaced, Stands, StandsRightly, bank_of, journal_of, log_of}
 use Rattle.bank_laws.specs.Parts.{SameInBank, SameForCore, is_issued_in}

@@ -6,7 +6,7 @@ use Rattle.pei_types.specs.declared.identifiers.CoreId.{CoreId}
 use Rattle.pei_types.specs.declared.identifiers.PeiId.{PeiId}
 use Rattle.pei_types.specs.declared.inflight_looks.PeiLook.{PeiLook}
 use Rattle.pei_types.specs.declared.machines.MachineSpec.{MachineSpec}
-use Rattle.pei_types.specs.Coherence.{State}
+use Rattle.pei_types.specs.MachineState.{State}
 use Rattle.pei_types.specs.History.{Pei, pei_issued_by, begins_fence}
 use Rattle.pei_types.specs.Recency.{list_at}
 use Rattle.history_laws.specs.Members.{In}

@@ -15,7 +15,7 @@ use Rattle.pei_types.specs.declared.events.EventKind.TheVariants as event
 use Rattle.pei_types.specs.declared.machines.MachineSpec.{MachineSpec}
 use Rattle.pei_types.specs.Blocks.{block_of}
 use Rattle.pei_types.specs.Calls.{is_actor_of}
-use Rattle.pei_types.specs.Coherence.{State, state_after, look_in, fence_of}
+use Rattle.pei_types.specs.MachineState.{State, state_after, look_in, fence_of}
 use Rattle.pei_types.specs.Core.{CoreNext, Calls, Busy, Ended, core_next, events_of, next_of_core, core_config}
 use Rattle.pei_types.specs.Exclusion.{EntersAlone}
 use Rattle.pei_types.specs.Fence.{FencesEarlier}

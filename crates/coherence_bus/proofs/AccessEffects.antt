@@ -12,7 +12,7 @@ use Rattle.pei_types.specs.declared.operations.Operands.{Operands}
 use Rattle.pei_types.specs.declared.events.EventKind.TheVariants as event
 use Rattle.pei_types.specs.declared.machines.MachineSpec.{MachineSpec}
 use Rattle.pei_types.specs.Blocks.{block_of}
-use Rattle.pei_types.specs.Coherence.{State, cores_of, letter_of, mark_of, is_absent, is_i, is_ahead, is_owned, with_l1_front, with_l1_touch}
+use Rattle.pei_types.specs.MachineState.{State, cores_of, letter_of, mark_of, is_absent, is_i, is_ahead, is_owned, with_l1_front, with_l1_touch}
 use Rattle.pei_types.specs.Operation.{is_writer, block_after}
 use Rattle.pei_types.specs.Recency.{to_front, without}
 use Rattle.pei_types.proofs.Lists.{found_passes}

@@ -9,7 +9,7 @@ use Rattle.pei_types.specs.declared.operations.Letter.{Letter}
 use Rattle.pei_types.specs.declared.operations.Letter.TheVariants as letter
 use Rattle.pei_types.specs.declared.events.EventKind.{EventKind}
 use Rattle.pei_types.specs.declared.machines.MachineSpec.{MachineSpec}
-use Rattle.pei_types.specs.Coherence.{State, letter_of}
+use Rattle.pei_types.specs.MachineState.{State, letter_of}
 use Rattle.pei_types.specs.Next.{want}
 use Rattle.coherence_laws.specs.Invariants.{Invariants}
 use Rattle.pmu_dispatch.specs.Shown.{AreLooksOf, eight_letters, looks_with, suffices}

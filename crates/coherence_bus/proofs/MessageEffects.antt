@@ -16,7 +16,7 @@ use Rattle.pei_types.specs.declared.lines.CopyLine.{CopyLine}
 use Rattle.pei_types.specs.declared.lines.HeldLine.{HeldLine}
 use Rattle.pei_types.specs.declared.machines.MachineSpec.{MachineSpec}
 use Rattle.pei_types.specs.Blocks.{l1_set_of, llc_set_of}
-use Rattle.pei_types.specs.Coherence.{State, letter_of, mark_of, cores_of, is_i, is_ahead, is_owned, is_absent, is_clean, is_dirty, none_has, none_owns, no_other_has, no_other_owns, is_sealed, writer_is_sealed, llc_set, l1_set, is_line_of, is_llc_line_of, after_invalidating, after_downgrading}
+use Rattle.pei_types.specs.MachineState.{State, letter_of, mark_of, cores_of, is_i, is_ahead, is_owned, is_absent, is_clean, is_dirty, none_has, none_owns, no_other_has, no_other_owns, is_sealed, writer_is_sealed, llc_set, l1_set, is_line_of, is_llc_line_of, after_invalidating, after_downgrading}
 use Rattle.pei_types.specs.Guard.{guard, l1_has_room, llc_has_room}
 use Rattle.pei_types.specs.Recency.{change_at, without, to_front, victim}
 use Rattle.pei_types.proofs.Identities.{same_block_is}

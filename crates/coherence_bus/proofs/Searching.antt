@@ -8,7 +8,7 @@ use Rattle.pei_types.specs.declared.identifiers.CoreId.{CoreId}
 use Rattle.pei_types.specs.declared.operations.Letter.{Letter}
 use Rattle.pei_types.specs.declared.operations.Letter.TheVariants as letter
 use Rattle.pei_types.specs.Blocks.{same_core}
-use Rattle.pei_types.specs.Coherence.{is_i, is_ahead}
+use Rattle.pei_types.specs.MachineState.{is_i, is_ahead}
 use Rattle.pei_types.proofs.Identities.{same_core_is}
 
 -- a core that passes, and past one that fails

@@ -11,7 +11,7 @@ use Rattle.pei_types.specs.declared.events.EventKind.{EventKind}
 use Rattle.pei_types.specs.declared.lines.HeldLine.{HeldLine}
 use Rattle.pei_types.specs.declared.machines.MachineSpec.{MachineSpec}
 use Rattle.pei_types.specs.Calls.{Messages, is_actor_of, side_of}
-use Rattle.pei_types.specs.Coherence.{State, next_state}
+use Rattle.pei_types.specs.MachineState.{State, next_state}
 use Rattle.pei_types.specs.Guard.{guard}
 use Rattle.pei_types.specs.Recency.{list_at}
 use Rattle.coherence_laws.specs.Data.{next_flat}

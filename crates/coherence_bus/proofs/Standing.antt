@@ -7,7 +7,7 @@ use Rattle.pei_types.specs.declared.identifiers.BlockNo.{BlockNo}
 use Rattle.pei_types.specs.declared.identifiers.CoreId.{CoreId}
 use Rattle.pei_types.specs.declared.machines.MachineSpec.{MachineSpec}
 use Rattle.pei_types.specs.Blocks.{l1_set_of}
-use Rattle.pei_types.specs.Coherence.{State, is_i, is_line_of, letter_in, letter_of}
+use Rattle.pei_types.specs.MachineState.{State, is_i, is_line_of, letter_in, letter_of}
 use Rattle.pei_types.specs.Recency.{list_at}
 use Rattle.coherence_laws.specs.Holdings.{Holdings, bare_copy, bare_line}
 use Rattle.mesi_l1.specs.Cache as private

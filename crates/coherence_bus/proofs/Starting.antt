@@ -9,7 +9,7 @@ use Rattle.std.proofs.Math.Seq.{take-nil}
 use Rattle.pei_types.specs.declared.identifiers.BlockNo.{BlockNo}
 use Rattle.pei_types.specs.declared.lines.HeldLine.{HeldLine}
 use Rattle.pei_types.specs.declared.machines.MachineSpec.{MachineSpec}
-use Rattle.pei_types.specs.Coherence.{start_state}
+use Rattle.pei_types.specs.MachineState.{start_state}
 use Rattle.pei_types.specs.Program.{Contents, block_at}
 use Rattle.pei_types.specs.Recency.{list_at}
 use Rattle.coherence_laws.specs.Holdings.{Holdings, start_holdings}

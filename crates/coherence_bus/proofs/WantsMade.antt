@@ -10,7 +10,7 @@ use Rattle.pei_types.specs.declared.events.EventKind.{EventKind}
 use Rattle.pei_types.specs.declared.events.EventKind.TheVariants as event
 use Rattle.pei_types.specs.declared.machines.MachineSpec.{MachineSpec}
 use Rattle.pei_types.specs.Blocks.{block_of, word_of}
-use Rattle.pei_types.specs.Coherence.{State, Line, LlcLine, is_absent, is_dirty, is_i, is_owned, is_sealed, letter_of, llc_set, mark_of, no_other_has}
+use Rattle.pei_types.specs.MachineState.{State, Line, LlcLine, is_absent, is_dirty, is_i, is_owned, is_sealed, letter_of, llc_set, mark_of, no_other_has}
 use Rattle.pei_types.specs.Next.{Makes, bring_in, evict, grant, grant_modify, grant_shared, holder, l1_victim, make_room, other_holder, other_owner, want}
 use Rattle.pei_types.specs.Recency.{victim}
 use Rattle.pei_types.proofs.Tests.{if-true, if-false}

@@ -10,7 +10,7 @@ use Rattle.pei_types.specs.declared.operations.Letter.TheVariants as letter
 use Rattle.pei_types.specs.declared.events.EventKind.{EventKind}
 use Rattle.pei_types.specs.declared.events.EventKind.TheVariants as event
 use Rattle.pei_types.specs.declared.machines.MachineSpec.{MachineSpec}
-use Rattle.pei_types.specs.Coherence.{State, Line, LlcLine, start_state, next_state}
+use Rattle.pei_types.specs.MachineState.{State, Line, LlcLine, start_state, next_state}
 use Rattle.pei_types.specs.Program.{Contents, block_at}
 use Rattle.coherence_laws.specs.Invariants.{caches_alone}
 

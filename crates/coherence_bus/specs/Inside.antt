@@ -5,7 +5,7 @@ use Rattle.pei_types.specs.declared.identifiers.Block.{Block}
 use Rattle.pei_types.specs.declared.identifiers.BlockNo.{BlockNo}
 use Rattle.pei_types.specs.declared.lines.HeldLine.{HeldLine}
 use Rattle.pei_types.specs.declared.machines.MachineSpec.{MachineSpec}
-use Rattle.pei_types.specs.Coherence.{State}
+use Rattle.pei_types.specs.MachineState.{State}
 use Rattle.pei_types.specs.Recency.{list_at}
 use Rattle.coherence_laws.specs.Holdings.{Holdings, bare_copy, bare_line}
 use Rattle.coherence_laws.specs.Invariants.{Invariants, caches_alone}

@@ -3,7 +3,7 @@ use Rattle.std.specs.Prelude.{◌≡◌, ◌<◌, Bool, true, false, IsTrue}
 use Rattle.pei_types.specs.declared.identifiers.BlockNo.{BlockNo}
 use Rattle.pei_types.specs.declared.identifiers.CoreId.{CoreId}
 use Rattle.pei_types.specs.declared.events.EventKind.{EventKind}
-use Rattle.pei_types.specs.Coherence.{letter_of}
+use Rattle.pei_types.specs.MachineState.{letter_of}
 use Rattle.pei_types.specs.Guard.{guard}
 use Rattle.pei_types.specs.Next.{want}
 use Rattle.coherence_laws.specs.Invariants.{Invariants}

@@ -4,7 +4,7 @@ ghost use Rattle.std.specs.Prelude.{◌≡◌, ◌<◌, true, false, slice_index
 ghost use Rattle.pei_types.specs.declared.events.EventKind.TheVariants as event;
 ghost use Rattle.pei_types.specs.declared.operations.Letter.TheVariants as letter;
 ghost use Rattle.pei_types.specs.Blocks.{block_of, is_word_of_memory, word_of};
-ghost use Rattle.pei_types.specs.Coherence.{is_i, is_owned, letter_of, mark_of, with_l1_front, with_l1_touch};
+ghost use Rattle.pei_types.specs.MachineState.{is_i, is_owned, letter_of, mark_of, with_l1_front, with_l1_touch};
 ghost use Rattle.pei_types.specs.FlatMemory.{with_word};
 ghost use Rattle.pei_types.specs.Operation.{CanApply, block_after, is_writer, reply_of};
 ghost use Rattle.coherence_laws.specs.Invariants.{HoldsSeal};

@@ -1,7 +1,7 @@
 //! The bus, and what is seen of memory.
 
 ghost use Rattle.std.specs.Prelude.{◌≡◌, ◌<◌, ◌*◌, IfOk, length, map, find, replicate};
-ghost use Rattle.pei_types.specs.Coherence.{cores_of, is_absent, is_ahead, letter_of};
+ghost use Rattle.pei_types.specs.MachineState.{cores_of, is_absent, is_ahead, letter_of};
 ghost use Rattle.coherence_laws.specs.Invariants.{Invariants};
 ghost use Rattle.mesi_l1.specs.Cache.{empty_cache};
 ghost use Rattle.pei_types.specs.Limits.{IsWithin};

@@ -2,7 +2,7 @@
 
 ghost use Rattle.std.specs.Prelude.{◌≡◌, ◌<◌, not, IsTrue, true, false};
 ghost use Rattle.pei_types.specs.declared.events.EventKind.TheVariants as event;
-ghost use Rattle.pei_types.specs.Coherence.{after_downgrading, after_granting, after_invalidating, is_absent, is_clean, is_dirty, is_i, is_owned, letter_of, mark_of, with_llc_line, with_llc_mark, without_llc_line};
+ghost use Rattle.pei_types.specs.MachineState.{after_downgrading, after_granting, after_invalidating, is_absent, is_clean, is_dirty, is_i, is_owned, letter_of, mark_of, with_llc_line, with_llc_mark, without_llc_line};
 ghost use Rattle.pei_types.specs.Guard.{guard};
 ghost use Rattle.pmu_dispatch.specs.Steps.{is_message};
 ghost use Rattle.coherence_bus.specs.Hierarchy.{FillsFrom, after, granting, grants_to_write, program_of, state_of, with_caches};

@@ -1,7 +1,7 @@
 //! Accesses of two cores with the messages before them, worked out by hand.
 
 ghost use Rattle.std.specs.Prelude.{◌≡◌, ◌<◌, ◌*◌, length, IfNone, IfOk, true};
-ghost use Rattle.pei_types.specs.Coherence.{letter_of};
+ghost use Rattle.pei_types.specs.MachineState.{letter_of};
 ghost use Rattle.pmu_dispatch.specs.Shown.{suffices};
 ghost use Rattle.pmu_dispatch.specs.Shown.{suffices as suffices_lem};
 ghost use Rattle.coherence_bus.specs.Hierarchy.{empty_hierarchy, state_of};

@@ -18,11 +18,12 @@ use Rattle.pei_types.specs.declared.machines.MachineSpec.{MachineSpec}
 use Rattle.pei_types.specs.declared.events.EventKind.TheVariants as event
 use Rattle.pei_types.specs.Blocks.{block_of, same_core, same_lane, same_pei}
 use Rattle.pei_types.specs.Calls.{is_actor_of}
-use Rattle.pei_types.specs.Coherence.{State, start_state, next_state, state_after, look_in, look_of, entry_is_taken, conflict, letter_of, mark_of, is_i, is_owned, is_phase, pei_id, in_phase, with_l1_front}
+use Rattle.pei_types.specs.MachineState.{State, start_state, next_state, state_after, look_in, look_of, entry_is_taken, conflict, letter_of, mark_of, is_i, is_owned, is_phase, pei_id, in_phase, with_l1_front}
 use Rattle.pei_types.specs.Guard.{guard}
 use Rattle.pei_types.specs.Legal.{Legal, MachineLegal}
 use Rattle.pei_types.specs.Next.{Makes, call_row, lane_row}
-use Rattle.pei_types.specs.Turns.{EvictsLast, PlacesByMonitor, SealsHold, is_entering, turn_of}
+use Rattle.pei_types.specs.StateClauses.{EvictsLast, PlacesByMonitor, SealsHold}
+use Rattle.pei_types.specs.Turns.{is_entering, turn_of}
 use Rattle.pei_types.specs.Core.{CoreNext}
 use Rattle.pei_types.specs.Replies.{RepliesRightly}
 use Rattle.pei_types.specs.FlatMemory.{flat_block}

@@ -1,3 +1,3 @@
 pub mod Effect
-pub mod Standing
+pub mod CoreView
 pub mod Wait

@@ -3,7 +3,7 @@
 ghost use Rattle.std.specs.Prelude.{◌≡◌, ◌<◌, ◌≤◌, IsTrue, None, false};
 ghost use Rattle.pei_types.specs.Core.{after_answer, after_retiring, at_stop, core_at_start, next_of};
 ghost use Rattle.pei_types.specs.Program.{Listing, instr_at};
-ghost use Rattle.core_exec.specs.Standing.{MayRetire, is_asking, retires, seen};
+ghost use Rattle.core_exec.specs.CoreView.{MayRetire, is_asking, retires, seen};
 
 use crate::next::CoreNext;
 use crate::states::{State, instruction_at};
@@ -24,7 +24,7 @@ pub struct Core {
 impl Model for Core {
     ghost use Rattle.std.specs.Prelude.{◌<◌, IfSome};
     ghost use Rattle.pei_types.specs.Program.{HasRegisters};
-    ghost use Rattle.core_exec.specs.Standing.{Standing};
+    ghost use Rattle.core_exec.specs.CoreView.{Standing};
 
     ghost Value = { Standing };
 

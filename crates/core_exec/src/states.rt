@@ -3,7 +3,7 @@
 ghost use Rattle.std.specs.Prelude.{◌≡◌, ◌<◌, ◌≤◌, ◌+◌, ◌-◌, ◌^◌, ℕ, Option, Some, None, IsTrue, IsSome, IfNone, IfSome, OnSome, MatchOption, map, slice_set};
 ghost use Rattle.pei_types.specs.Core.{Stops, Retires, core_step, at_stop, next_of, core_at_start, busy_register, step_unless_busy, after_retiring, wait_after, with_loaded_at, with_reply, with_waits_at};
 ghost use Rattle.pei_types.specs.Program.{HasRegisters, instr_at};
-ghost use Rattle.core_exec.specs.Standing.{seen, is_asking};
+ghost use Rattle.core_exec.specs.CoreView.{seen, is_asking};
 ghost use Rattle.core_exec.specs.Wait.{seen_wait};
 
 use crate::accesses::trapped;

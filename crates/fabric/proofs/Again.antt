@@ -15,11 +15,11 @@ use Rattle.pei_types.specs.declared.events.EventKind.{EventKind}
 use Rattle.pei_types.specs.declared.events.EventKind.TheVariants as event
 use Rattle.pei_types.specs.declared.machines.MachineSpec.{MachineSpec}
 use Rattle.pei_types.specs.Blocks.{same_pei}
-use Rattle.pei_types.specs.Coherence.{State, first_unentered, look_in}
+use Rattle.pei_types.specs.MachineState.{State, first_unentered, look_in}
 use Rattle.pei_types.specs.Guard.{is_pei}
 use Rattle.pei_types.specs.Next.{Makes, Stalls, enter_row, lane_row, pei_row}
 use Rattle.pei_types.specs.Turns.{is_entering}
-use Rattle.fabric.specs.Moving.{after_event, after_move, row_of}
+use Rattle.fabric.specs.Moves.{after_event, after_move, row_of}
 use Rattle.fabric.specs.Needs.{IsFirst}
 use Rattle.fabric.specs.Whole.{Whole}
 use Rattle.fabric.specs.declared.turns.Move.{Move}

@@ -13,7 +13,7 @@ use Rattle.pei_types.specs.declared.events.EventKind.TheVariants as event
 use Rattle.pei_types.specs.declared.machines.MachineSpec.{MachineSpec}
 use Rattle.pei_types.specs.Blocks.{same_core, same_lane, same_pei}
 use Rattle.pei_types.specs.Calls.{is_actor_of}
-use Rattle.pei_types.specs.Coherence.{State, next_state, state_after, pei_id}
+use Rattle.pei_types.specs.MachineState.{State, next_state, state_after, pei_id}
 use Rattle.pei_types.specs.FlatMemory.{flat_block}
 use Rattle.pei_types.specs.History.{pei_of}
 use Rattle.pei_types.specs.Program.{Contents}
@@ -27,10 +27,10 @@ use Rattle.bank_laws.specs.Own.{next_peis}
 use Rattle.journal.specs.Recorded.{Recorded, pushed}
 use Rattle.fabric.specs.Likeness.{AreAlike, IsAfter}
 use Rattle.fabric.specs.Banks.{IsNew}
-use Rattle.fabric.specs.Fitting.{EventFits}
+use Rattle.fabric.specs.ValidEvents.{EventFits}
 use Rattle.fabric.specs.KeptBank.{KeepsBank}
 use Rattle.fabric.specs.Laws.{BankLaws}
-use Rattle.fabric.specs.Moving.{memory_after}
+use Rattle.fabric.specs.Moves.{memory_after}
 use Rattle.fabric.specs.IssueStamps.{HaveStamps, log_with, with_issue}
 use Rattle.fabric.specs.Whole.{Whole, content_at, content_in}
 use Rattle.fabric.proofs.Contents.{content_next}

@@ -18,7 +18,7 @@ use Rattle.pei_types.specs.declared.events.EventKind.{EventKind}
 use Rattle.pei_types.specs.declared.events.EventKind.TheVariants as event
 use Rattle.pei_types.specs.declared.machines.MachineSpec.{MachineSpec}
 use Rattle.pei_types.specs.Blocks.{same_pei, same_core, same_lane, vault_of}
-use Rattle.pei_types.specs.Coherence.{State, is_phase, look_in, state_after, l1_set, llc_set, queue_is_full, queue_of}
+use Rattle.pei_types.specs.MachineState.{State, is_phase, look_in, state_after, l1_set, llc_set, queue_is_full, queue_of}
 use Rattle.pei_types.specs.Calls.{CallFits}
 use Rattle.pei_types.specs.Core.{CoreNext, Calls}
 use Rattle.pei_types.specs.FlatMemory.{flat_block}
@@ -36,7 +36,7 @@ use Rattle.journal.specs.Recorded.{Recorded}
 use Rattle.inflight.specs.OnTheWay.{is_writer_below}
 use Rattle.fabric.specs.Likeness.{AreAlike, IsEvent, MayIssueBy, MayIssueIn}
 use Rattle.fabric.specs.Banks.{BankHistory, MayCall, call_stall_of, stall_in, IsLaneFree, call_turn_of, lane_turn_of, waits_of, is_issued_below}
-use Rattle.fabric.specs.Fitting.{KindFits}
+use Rattle.fabric.specs.ValidEvents.{KindFits}
 use Rattle.fabric.specs.History.{lane_of, program_of}
 use Rattle.fabric.specs.KeptBank.{KeepsBank, history_of}
 use Rattle.fabric.specs.Laws.{BankLaws}

@@ -2,7 +2,7 @@
 use Rattle.std.proofs.Common.{◌≡◌, ℕ, ◌*◌, List, [], length, refl, sym, subst}
 use Rattle.std.specs.Prelude.{replicate}
 use Rattle.pei_types.specs.declared.machines.MachineSpec.{MachineSpec}
-use Rattle.pei_types.specs.Coherence.{start_state}
+use Rattle.pei_types.specs.MachineState.{start_state}
 use Rattle.pei_types.specs.Program.{Contents}
 use Rattle.coherence_laws.specs.Holdings.{start_holdings}
 use Rattle.bank_laws.specs.Kept.{FitsInBank}

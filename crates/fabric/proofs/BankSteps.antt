@@ -7,7 +7,7 @@ use Rattle.pei_types.specs.declared.calls.Call.{Call}
 use Rattle.pei_types.specs.declared.inflight_looks.PeiLook.{PeiLook}
 use Rattle.pei_types.specs.declared.events.EventKind.{EventKind}
 use Rattle.pei_types.specs.declared.events.EventKind.TheVariants as event
-use Rattle.pei_types.specs.Coherence.{entry_is_taken, look_in, state_after}
+use Rattle.pei_types.specs.MachineState.{entry_is_taken, look_in, state_after}
 use Rattle.pei_types.specs.Next.{Makes, lane_row}
 use Rattle.pei_types.specs.Program.{Contents}
 use Rattle.pei_types.specs.Next.{call_row_by}
@@ -15,7 +15,7 @@ use Rattle.journal.specs.Recorded.{Recorded, pushed}
 use Rattle.inflight.specs.OnTheWay.{IsLaneOf}
 use Rattle.fabric.specs.Likeness.{IsAfter}
 use Rattle.fabric.specs.Banks.{BankHistory, IsEntryFreeIn, IsNew, MayCall, call_turn_of, lane_turn_of, stall_in, with_event}
-use Rattle.fabric.specs.Fitting.{ProgramFits}
+use Rattle.fabric.specs.ValidEvents.{ProgramFits}
 use Rattle.fabric.specs.History.{lane_of, program_of}
 use Rattle.fabric.specs.KeptBank.{KeepsBank, history_of}
 use Rattle.fabric.specs.Laws.{BankLaws}

@@ -8,7 +8,7 @@ use Rattle.pei_types.specs.declared.operations.Mark.TheVariants as mark
 use Rattle.pei_types.specs.declared.events.EventKind.{EventKind}
 use Rattle.pei_types.specs.declared.events.EventKind.TheVariants as event
 use Rattle.pei_types.specs.Blocks.{llc_set_of, tag_of}
-use Rattle.pei_types.specs.Coherence.{after_granting, letter_of, mark_of, is_absent, is_i, is_ahead, is_owned, is_sealed, no_other_has, writer_is_sealed, with_llc_mark, without_l1_line, with_l1_shared}
+use Rattle.pei_types.specs.MachineState.{after_granting, letter_of, mark_of, is_absent, is_i, is_ahead, is_owned, is_sealed, no_other_has, writer_is_sealed, with_llc_mark, without_l1_line, with_l1_shared}
 use Rattle.pei_types.specs.Guard.{guard, l1_has_room, llc_has_room}
 use Rattle.pei_types.specs.Monitor.{MonitorEntry, after_access}
 use Rattle.pei_types.specs.Recency.{change_at}
@@ -18,7 +18,7 @@ use Rattle.locality_monitor.specs.Table.{Table}
 use Rattle.pmu_dispatch.specs.Steps.{is_message}
 use Rattle.fabric.specs.History.{program_of}
 use Rattle.fabric.specs.Joined.{joined, joined_state}
-use Rattle.fabric.specs.Moving.{after_event}
+use Rattle.fabric.specs.Moves.{after_event}
 
 taken_away : (bus : Hierarchy) (table : OnTheWay) (monitor : Table) (c : CoreId) (b : BlockNo) (t : Bool) →
     joined (with_caches bus (without_l1_line bus.machine (if t then with_llc_mark bus.machine (state_of bus) b mark.Dirty else state_of bus) c b)) table monitor

@@ -15,12 +15,12 @@ use Rattle.pei_types.specs.declared.events.EventKind.{EventKind}
 use Rattle.pei_types.specs.declared.events.EventKind.TheVariants as event
 use Rattle.pei_types.specs.declared.machines.MachineSpec.{MachineSpec}
 use Rattle.pei_types.specs.Blocks.{same_pei}
-use Rattle.pei_types.specs.Coherence.{State, next_state, look_of, letter_of, pei_id, in_phase, with_l1_front, after_placing, after_reading, after_acting, after_acting_in, after_taking_back, unfinished_writers, without_l1_line, with_l1_shared}
+use Rattle.pei_types.specs.MachineState.{State, next_state, look_of, letter_of, pei_id, in_phase, with_l1_front, after_placing, after_reading, after_acting, after_acting_in, after_taking_back, unfinished_writers, without_l1_line, with_l1_shared}
 use Rattle.pei_types.specs.Operation.{is_writer}
 use Rattle.pei_types.specs.Recency.{change_at, without}
 use Rattle.coherence_laws.specs.Data.{next_flat}
 use Rattle.fabric.specs.Likeness.{AreAlike, IsAfter}
-use Rattle.fabric.specs.Moving.{after_event}
+use Rattle.fabric.specs.Moves.{after_event}
 use Rattle.fabric.specs.Whole.{Whole}
 
 abbrev Counts : Type 0

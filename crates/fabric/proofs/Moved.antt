@@ -14,7 +14,7 @@ use Rattle.pei_types.specs.declared.events.EventKind.TheVariants as event
 use Rattle.pei_types.specs.declared.machines.MachineSpec.{MachineSpec}
 use Rattle.pei_types.specs.Blocks.{block_of, word_of}
 use Rattle.pei_types.specs.Calls.{is_actor_of}
-use Rattle.pei_types.specs.Coherence.{State, conflict, free_lane}
+use Rattle.pei_types.specs.MachineState.{State, conflict, free_lane}
 use Rattle.pei_types.specs.FlatMemory.{with_word}
 use Rattle.pei_types.specs.Guard.{guard}
 use Rattle.pei_types.specs.Operation.{CanApply}
@@ -28,7 +28,7 @@ use Rattle.pmu_dispatch.specs.Steps.{is_message}
 use Rattle.fabric.specs.History.{program_of}
 use Rattle.fabric.specs.Joined.{joined, joined_state, Joins, CanAct}
 use Rattle.fabric.specs.Laws.{Laws}
-use Rattle.fabric.specs.Moving.{after_event}
+use Rattle.fabric.specs.Moves.{after_event}
 use Rattle.fabric.specs.Whole.{content_at}
 use Rattle.fabric.proofs.Effects.{is_grant, message_joined, AreAccessed, shared_joined, owned_joined, modified_joined}
 use Rattle.fabric.proofs.Fresh.{AllFresh, fresh_stored, fresh_issued}

@@ -17,7 +17,7 @@ use Rattle.pei_types.specs.declared.inflight_looks.Phase.TheVariants as phase
 use Rattle.pei_types.specs.declared.events.EventKind.TheVariants as event
 use Rattle.pei_types.specs.declared.machines.MachineSpec.{MachineSpec}
 use Rattle.pei_types.specs.Blocks.{same_core, same_lane, same_pei}
-use Rattle.pei_types.specs.Coherence.{State, entry_is_taken, in_phase, is_phase, look_in, look_of}
+use Rattle.pei_types.specs.MachineState.{State, entry_is_taken, in_phase, is_phase, look_in, look_of}
 use Rattle.pei_types.specs.Operation.{CanApply}
 use Rattle.coherence_bus.specs.Hierarchy.{Hierarchy}
 use Rattle.inflight.specs.OnTheWay.{OnTheWay, IsLaneOf, after_issuing_as, counting, lane_in_phase}

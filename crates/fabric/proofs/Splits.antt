@@ -12,7 +12,7 @@ use Rattle.bank_laws.specs.Logs.{AreStamped, merged}
 use Rattle.fabric.specs.Banks.{BankHistory, bank_at_start, banks_at_start}
 use Rattle.fabric.specs.KeptReserve.{IsFresh}
 use Rattle.fabric.specs.Laws.{MergeLaws}
-use Rattle.fabric.specs.Merging.{CanMerge, IsCons, logs_of, without_log}
+use Rattle.fabric.specs.Merge.{CanMerge, IsCons, logs_of, without_log}
 use Rattle.fabric.specs.declared.bank.Reserve.{Reserve}
 
 pub banks_length : (m : MachineSpec) (image : Contents) → length (banks_at_start m image) ≡ m.banks

@@ -21,7 +21,7 @@ use Rattle.pei_types.specs.declared.events.Event.{Event}
 use Rattle.pei_types.specs.declared.events.EventKind.{EventKind}
 use Rattle.pei_types.specs.declared.events.EventKind.TheVariants as event
 use Rattle.pei_types.specs.Blocks.{same_core, same_lane, same_pei}
-use Rattle.pei_types.specs.Coherence.{pei_id, with_phase}
+use Rattle.pei_types.specs.MachineState.{pei_id, with_phase}
 use Rattle.pei_types.specs.History.{Pei, pei_issued_by, pei_of, issued_peis}
 use Rattle.pei_types.specs.declared.stamps.Stamped.{Stamped}
 use Rattle.bank_laws.specs.Own.{next_peis}

@@ -21,7 +21,7 @@ use Rattle.pei_types.specs.declared.machines.MachineSpec.{MachineSpec}
 use Rattle.pei_types.specs.declared.stamps.Stamped.{Stamped}
 use Rattle.pei_types.specs.Blocks.{block_of}
 use Rattle.pei_types.specs.Calls.{Answers, AnswersNext, BelongsTo, is_actor_of, side_of}
-use Rattle.pei_types.specs.Coherence.{State, conflict, entry_is_taken, look_in, state_after}
+use Rattle.pei_types.specs.MachineState.{State, conflict, entry_is_taken, look_in, state_after}
 use Rattle.pei_types.specs.Core.{CoreNext, Calls, Busy, Ended}
 use Rattle.pei_types.specs.FlatMemory.{flat_block}
 use Rattle.pei_types.specs.Guard.{guard}
@@ -32,17 +32,17 @@ use Rattle.pei_types.specs.Recency.{list_at}
 use Rattle.pei_types.specs.Turns.{is_entering, lane_turn, program_turn}
 use Rattle.history_laws.specs.Fits.{EntersFree}
 use Rattle.history_laws.specs.Members.{In}
-use Rattle.machine_laws.specs.Standing.{MachineInOrder}
+use Rattle.machine_laws.specs.InOrder.{MachineInOrder}
 use Rattle.bank_laws.specs.Banks.{EachPlaced, Placed}
 use Rattle.bank_laws.specs.Logs.{AreStamped, NextInLogs, event_with, history_below, merged}
 use Rattle.bank_laws.specs.Rows.{GoesInSome, IsRowOfBank}
 use Rattle.journal.specs.Recorded.{Recorded}
 use Rattle.fabric.specs.Banks.{BankHistory, bank_at_start, events_of}
-use Rattle.fabric.specs.Fitting.{EventFits, KindFits, ProgramFits}
+use Rattle.fabric.specs.ValidEvents.{EventFits, KindFits, ProgramFits}
 use Rattle.fabric.specs.Kept.{Keeps}
 use Rattle.fabric.specs.Laws.{MergeLaws}
-use Rattle.fabric.specs.Merging.{CanMerge, IsVouched, logs_of, without_log}
-use Rattle.fabric.specs.Replaying.{IsAgain, IsLanesAgain, IsProgramsAgain, IsRowOfCall}
+use Rattle.fabric.specs.Merge.{CanMerge, IsVouched, logs_of, without_log}
+use Rattle.fabric.specs.Replay.{IsAgain, IsLanesAgain, IsProgramsAgain, IsRowOfCall}
 use Rattle.fabric.specs.Whole.{Whole, content_in}
 use Rattle.fabric.proofs.BankRows.{has_banks}
 use Rattle.fabric.proofs.Going.{flat_call, flat_lane, issues_fit, positive_turn}

@@ -17,7 +17,7 @@ use Rattle.pei_types.specs.declared.inflight_looks.StallCause.TheVariants as sta
 use Rattle.pei_types.specs.declared.machines.MachineSpec.{MachineSpec}
 use Rattle.pei_types.specs.Blocks.{same_core}
 use Rattle.pei_types.specs.Calls.{CallFits}
-use Rattle.pei_types.specs.Coherence.{State, state_after, entry_is_taken, fence_of, look_in}
+use Rattle.pei_types.specs.MachineState.{State, state_after, entry_is_taken, fence_of, look_in}
 use Rattle.pei_types.specs.Core.{Calls}
 use Rattle.pei_types.specs.FlatMemory.{flat_block}
 use Rattle.pei_types.specs.History.{pei_of}

@@ -3,7 +3,7 @@ use Rattle.std.specs.Prelude.{◌≡◌, ℕ, ◌<◌, List, length, IsTrue}
 use Rattle.std.specs.List.{AllByRecursion}
 use Rattle.pei_types.specs.declared.identifiers.BlockNo.{BlockNo}
 use Rattle.pei_types.specs.Calls.{is_actor_of}
-use Rattle.pei_types.specs.Coherence.{state_after}
+use Rattle.pei_types.specs.MachineState.{state_after}
 use Rattle.pei_types.specs.FlatMemory.{flat_block}
 use Rattle.pei_types.specs.Legal.{EachEvent}
 use Rattle.pei_types.specs.Program.{Contents}
@@ -14,7 +14,7 @@ use Rattle.bank_laws.specs.Logs.{Rises}
 use Rattle.bank_laws.specs.Rows.{IsRowOfBank}
 use Rattle.fabric.specs.Likeness.{AreAlike}
 use Rattle.fabric.specs.Banks.{BankHistory}
-use Rattle.fabric.specs.Fitting.{EventFits}
+use Rattle.fabric.specs.ValidEvents.{EventFits}
 use Rattle.fabric.specs.IssueStamps.{HaveStamps, log_with}
 use Rattle.fabric.specs.Whole.{Whole, content_in}
 use Rattle.fabric.specs.declared.sections.Section.TheInside.{Inside}

@@ -6,10 +6,10 @@ use Rattle.pei_types.specs.declared.identifiers.Lane.{Lane}
 use Rattle.pei_types.specs.declared.calls.Call.{Call}
 use Rattle.pei_types.specs.declared.calls.Call.TheVariants as call
 use Rattle.pei_types.specs.declared.events.EventKind.{EventKind}
-use Rattle.pei_types.specs.Coherence.{State, look_in, look_of, next_state}
+use Rattle.pei_types.specs.MachineState.{State, look_in, look_of, next_state}
 use Rattle.pei_types.specs.Next.{Turn as Row, Makes}
 use Rattle.inflight.specs.OnTheWay.{IsLaneOf}
-use Rattle.fabric.specs.Moving.{memory_after}
+use Rattle.fabric.specs.Moves.{memory_after}
 use Rattle.fabric.specs.Whole.{Whole}
 use Rattle.fabric.specs.declared.looks.CoreLook.{CoreLook}
 

@@ -4,14 +4,14 @@ ghost use Rattle.std.specs.Prelude.{◌≡◌, ◌<◌, false, Some};
 ghost use Rattle.pei_types.specs.declared.events.EventKind.TheVariants as event;
 ghost use Rattle.pei_types.specs.declared.inflight_looks.Phase.{Phase};
 ghost use Rattle.pei_types.specs.Calls.{CallFits};
-ghost use Rattle.pei_types.specs.Coherence.{entry_is_taken, look_in};
+ghost use Rattle.pei_types.specs.MachineState.{entry_is_taken, look_in};
 ghost use Rattle.pei_types.specs.Next.{Makes, call_row_by, lane_row};
 ghost use Rattle.inflight.specs.OnTheWay.{IsLaneOf, phase_in};
 ghost use Rattle.fabric.specs.Likeness.{IsAfter, IsEvent, MayIssue, MayIssueBy};
 ghost use Rattle.fabric.specs.History.{lane_of, program_of};
 ghost use Rattle.fabric.specs.Laws.{PartLaws};
 ghost use Rattle.fabric.specs.Looks.{seen};
-ghost use Rattle.fabric.specs.Moving.{row_of};
+ghost use Rattle.fabric.specs.Moves.{row_of};
 ghost use Rattle.fabric.specs.Whole.{content_in};
 
 use crate::looks::CoreLook;

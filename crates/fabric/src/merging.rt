@@ -5,7 +5,7 @@ ghost use Rattle.std.specs.List.{AllByRecursion};
 ghost use Rattle.bank_laws.specs.Logs.{AreStamped, event_with, merged};
 ghost use Rattle.fabric.specs.Kept.{Keeps};
 ghost use Rattle.fabric.specs.Laws.{MergeLaws};
-ghost use Rattle.fabric.specs.Merging.{CanMerge, IsVouched, logs_of};
+ghost use Rattle.fabric.specs.Merge.{CanMerge, IsVouched, logs_of};
 
 use crate::parts::Parts;
 use crate::sections::{self, Section};

@@ -3,8 +3,8 @@
 ghost use Rattle.std.specs.Prelude.{◌≡◌, ◌<◌, false, true};
 ghost use Rattle.pei_types.specs.Turns.{is_entering};
 ghost use Rattle.fabric.specs.History.{lane_of, program_of};
-ghost use Rattle.fabric.specs.Moving.{after_event};
-ghost use Rattle.fabric.specs.Replaying.{IsAgain, IsLanesAgain, IsProgramsAgain};
+ghost use Rattle.fabric.specs.Moves.{after_event};
+ghost use Rattle.fabric.specs.Replay.{IsAgain, IsLanesAgain, IsProgramsAgain};
 
 use crate::parts::Parts;
 use pei_types::{CoreId, Event, EventKind, Lane};

@@ -12,7 +12,7 @@ ghost use Rattle.bank_laws.specs.Rows.{IsRowOfBank};
 ghost use Rattle.coherence_laws.specs.Holdings.{Holdings};
 ghost use Rattle.inflight.specs.OnTheWay.{IsLaneOf};
 ghost use Rattle.fabric.specs.Banks.{IsEntryFreeIn, IsNew, HasWaits, MayCall, bank_at_start, call_stall_of, call_turn_of, events_of, lane_turn_of, stall_in, waits_of, with_event};
-ghost use Rattle.fabric.specs.Fitting.{EventFits};
+ghost use Rattle.fabric.specs.ValidEvents.{EventFits};
 ghost use Rattle.fabric.specs.History.{lane_of as lane_of_lem, program_of as program_of_lem};
 ghost use Rattle.fabric.specs.Laws.{BankLaws};
 ghost use Rattle.fabric.specs.Looks.{is_clear, open_fence};

@@ -6,7 +6,7 @@ ghost use Rattle.pei_types.specs.declared.machines.MachineSpec.{MachineSpec};
 ghost use Rattle.pei_types.specs.Program.{Contents};
 ghost use Rattle.fabric.specs.Banks.{banks_at_start};
 ghost use Rattle.fabric.specs.KeptReserve.{IsFresh, IsReserve};
-ghost use Rattle.fabric.specs.Merging.{CanMerge, IsCons, merged_history};
+ghost use Rattle.fabric.specs.Merge.{CanMerge, IsCons, merged_history};
 
 use crate::bank::{Bank, Reserve};
 use crate::merging::{laws, replay_all};

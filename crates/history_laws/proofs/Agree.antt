@@ -23,11 +23,11 @@ use Rattle.pei_types.specs.declared.events.EventKind.TheVariants as event
 use Rattle.pei_types.specs.declared.machines.MachineSpec.{MachineSpec}
 use Rattle.pei_types.specs.Blocks.{same_core, same_pei}
 use Rattle.pei_types.specs.Calls.{follows_phase}
-use Rattle.pei_types.specs.Coherence.{State, fence_of, is_phase, with_phase, pei_id, unfinished_writers}
+use Rattle.pei_types.specs.MachineState.{State, fence_of, is_phase, with_phase, pei_id, unfinished_writers}
 use Rattle.pei_types.specs.History.{Pei, issued_peis, pei_issued_by, pei_of, phase_of, phase_after, is_about, seq_named, is_number, is_enter, is_act, is_leave, has_entered, has_acted, has_left, unfinished_peis, begins_fence, ends_fence, before_fence}
 use Rattle.pei_types.specs.Operation.{is_writer}
 use Rattle.pei_types.specs.Recency.{change_at, without}
-use Rattle.history_laws.specs.Tracking.{as_issued, issued_by, issue_count, fence_is_on, writers_awaited, fence_in, IsTracked, Agrees}
+use Rattle.history_laws.specs.TrackedPeis.{as_issued, issued_by, issue_count, fence_is_on, writers_awaited, fence_in, IsTracked, Agrees}
 use Rattle.history_laws.specs.Members.{In}
 use Rattle.history_laws.proofs.Lists.{any_none, each_kept, get_or_in, get_or-map_default, get_or-change_at_same, get_or-change_at_other, or_parts_cases, filter-map, filter-filter, map-map}
 use Rattle.history_laws.proofs.Grows.{and-true, leaves, enters, acts, has_left-push, has_entered-push, has_acted-push, named-push, leaves_about, enters_about, acts_about, left_kept, entered_kept, acted_kept, phase_kept, phase_set, pei_kept, issued_kept, issued_more, left_none, left_more, unfinished_kept, unfinished_left, fence_is_on-push, before_fence_kept, before_fence_here, fence_kept}

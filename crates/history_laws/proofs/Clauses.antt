@@ -17,7 +17,7 @@ use Rattle.pei_types.specs.declared.events.EventKind.TheVariants as event
 use Rattle.pei_types.specs.declared.machines.MachineSpec.{MachineSpec}
 use Rattle.pei_types.specs.Blocks.{block_of, same_block, same_core, same_lane, same_pei, entry_of}
 use Rattle.pei_types.specs.Calls.{AnswersCall, AnswersNext, FollowsPei, follows_phase}
-use Rattle.pei_types.specs.Coherence.{State, conflict, look_in, is_phase, pei_id}
+use Rattle.pei_types.specs.MachineState.{State, conflict, look_in, is_phase, pei_id}
 use Rattle.pei_types.specs.Core.{CoreNext}
 use Rattle.pei_types.specs.Exclusion.{conflicts, EntersAlone}
 use Rattle.pei_types.specs.Fence.{FencesEarlier}
@@ -31,8 +31,8 @@ use Rattle.pei_types.specs.Program.{Contents}
 use Rattle.pei_types.specs.Race.{RacesRightly}
 use Rattle.pei_types.specs.Replies.{RepliesRightly}
 use Rattle.history_laws.specs.Members.{In}
-use Rattle.history_laws.specs.Tracking.{as_issued, is_past_issue, Agrees, issues_next, fence_is_on, fence_in}
-use Rattle.history_laws.specs.Entering.{InTurn, enters_rightly}
+use Rattle.history_laws.specs.TrackedPeis.{as_issued, is_past_issue, Agrees, issues_next, fence_is_on, fence_in}
+use Rattle.history_laws.specs.EntryOrder.{InTurn, enters_rightly}
 use Rattle.history_laws.specs.Fences.{Settles, fences_rightly}
 use Rattle.history_laws.specs.Fits.{Fits, FitsProgram, FitsPei, AsksForFence}
 use Rattle.history_laws.proofs.Lists.{find_Some, find_None, find_first, in_filter, filter_in, in_map, all_in, any_false, or_parts_cases}

@@ -2,7 +2,7 @@
 use Rattle.std.proofs.Common.{◌≡◌, ℕ, zero, suc, ◌+◌, ◌*◌, ◌<◌, ◌≤◌, Bool, true, false, List, [], ◌∷◌, length, get_or, eqb, eqb-true, eq-eqb, refl, sym, ◌∙◌, ap, subst, arith}
 use Rattle.pei_types.specs.Recency.{change_at, list_at}
 use Rattle.pei_types.specs.Schedule.{LaneClaim, Free}
-use Rattle.history_laws.specs.Holding.{claim_at, one, count_in, count_all}
+use Rattle.history_laws.specs.Holders.{claim_at, one, count_in, count_all}
 use Rattle.history_laws.proofs.Lists.{get_or-change_at_same, get_or-change_at_other}
 use Rattle.pei_types.proofs.Lists.{length-change_at}
 

@@ -14,12 +14,12 @@ use Rattle.pei_types.specs.declared.events.Event.{Event}
 use Rattle.pei_types.specs.declared.machines.MachineSpec.{MachineSpec}
 use Rattle.pei_types.specs.Blocks.{same_lane, same_block, same_core, same_pei}
 use Rattle.pei_types.specs.Calls.{all_left, FollowsPei, follows_phase}
-use Rattle.pei_types.specs.Coherence.{look_of, pei_id, State, conflict, first_unentered, first_unfinished, is_phase, fence_of}
+use Rattle.pei_types.specs.MachineState.{look_of, pei_id, State, conflict, first_unentered, first_unfinished, is_phase, fence_of}
 use Rattle.pei_types.specs.Fence.{earlier_writers_left}
 use Rattle.pei_types.specs.History.{Pei, issued_peis, pei_of, phase_of, has_entered, has_left, unfinished_peis, active_peis, before_fence}
 use Rattle.pei_types.specs.Operation.{is_writer}
 use Rattle.pei_types.specs.Race.{racing_pei}
-use Rattle.history_laws.specs.Tracking.{as_issued, is_past_issue, issue_count, fence_is_on, writers_awaited, fence_in, IsTracked, Agrees}
+use Rattle.history_laws.specs.TrackedPeis.{as_issued, is_past_issue, issue_count, fence_is_on, writers_awaited, fence_in, IsTracked, Agrees}
 use Rattle.history_laws.specs.Members.{In}
 use Rattle.history_laws.proofs.Lists.{find_Some, find_first, in_map, each_of, find-map, find_agree, filter-map, filter_agree_each, find_None, all_in, filter_in, map_in}
 use Rattle.history_laws.proofs.Agree.{phase_none}

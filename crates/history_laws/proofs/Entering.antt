@@ -19,15 +19,15 @@ use Rattle.pei_types.specs.declared.events.EventKind.TheVariants as event
 use Rattle.pei_types.specs.declared.machines.MachineSpec.{MachineSpec}
 use Rattle.pei_types.specs.Blocks.{same_core, same_pei, entry_of}
 use Rattle.pei_types.specs.Calls.{AnswersCall, follows_phase}
-use Rattle.pei_types.specs.Coherence.{State, start_state, next_state, look_of, is_phase, pei_id, with_phase, first_unentered, entry_is_taken}
+use Rattle.pei_types.specs.MachineState.{State, start_state, next_state, look_of, is_phase, pei_id, with_phase, first_unentered, entry_is_taken}
 use Rattle.pei_types.specs.Core.{CoreNext}
 use Rattle.pei_types.specs.Exclusion.{conflicts}
 use Rattle.pei_types.specs.Guard.{is_pei, pei_guard}
 use Rattle.pei_types.specs.History.{Pei, issued_peis, phase_of, has_left, unfinished_peis, is_enter}
 use Rattle.pei_types.specs.Operation.{is_writer}
 use Rattle.history_laws.specs.Members.{In}
-use Rattle.history_laws.specs.Tracking.{as_issued, is_past_issue, issue_count, Agrees, issues_next}
-use Rattle.history_laws.specs.Entering.{InTurn, enters_rightly}
+use Rattle.history_laws.specs.TrackedPeis.{as_issued, is_past_issue, issue_count, Agrees, issues_next}
+use Rattle.history_laws.specs.EntryOrder.{InTurn, enters_rightly}
 use Rattle.history_laws.proofs.Lists.{each_of, find_Some, any_false, in_filter, in_push, in_map}
 use Rattle.history_laws.proofs.Agree.{moved, Moves, new_look}
 use Rattle.history_laws.proofs.Steps.{moves_place_host, moves_place_memory, moves_read, moves_seal, moves_act, keeps_placing, keeps_reading, keeps_acting, keeps_invalidating, keeps_downgrading}

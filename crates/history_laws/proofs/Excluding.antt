@@ -11,16 +11,16 @@ use Rattle.pei_types.specs.declared.events.EventKind.TheVariants as event
 use Rattle.pei_types.specs.declared.machines.MachineSpec.{MachineSpec}
 use Rattle.pei_types.specs.Blocks.{same_core, same_lane, same_pei}
 use Rattle.pei_types.specs.Calls.{FollowsPei, follows_phase}
-use Rattle.pei_types.specs.Coherence.{State, entry_is_taken, look_in, look_of, pei_id}
+use Rattle.pei_types.specs.MachineState.{State, entry_is_taken, look_in, look_of, pei_id}
 use Rattle.pei_types.specs.Exclusion.{conflicts, EntersAlone}
 use Rattle.pei_types.specs.History.{pei_of, has_left, issued_peis, is_enter, active_peis, entered_peis, entering}
 use Rattle.pei_types.proofs.Identities.{same_core_is, same_lane_is, same_pei_is}
 use Rattle.pei_types.proofs.Lists.{all_true}
 use Rattle.pei_types.proofs.Tests.{same_self}
-use Rattle.history_laws.specs.Entering.{LanesApart}
+use Rattle.history_laws.specs.EntryOrder.{LanesApart}
 use Rattle.history_laws.specs.Fits.{EntersFree}
 use Rattle.history_laws.specs.Members.{In}
-use Rattle.history_laws.specs.Tracking.{as_issued, is_past_issue, Agrees}
+use Rattle.history_laws.specs.TrackedPeis.{as_issued, is_past_issue, Agrees}
 use Rattle.history_laws.proofs.Derived.{active_agrees, look_follows, look_tracked, look_unfinished}
 use Rattle.history_laws.proofs.Lists.{each_of, find_first, find_Some, in_filter}
 

@@ -12,13 +12,13 @@ use Rattle.pei_types.specs.declared.events.EventKind.{EventKind}
 use Rattle.pei_types.specs.declared.events.EventKind.TheVariants as event
 use Rattle.pei_types.specs.declared.machines.MachineSpec.{MachineSpec}
 use Rattle.pei_types.specs.Blocks.{same_core}
-use Rattle.pei_types.specs.Coherence.{State, fence_of}
+use Rattle.pei_types.specs.MachineState.{State, fence_of}
 use Rattle.pei_types.specs.Fence.{earlier_writers_left}
 use Rattle.pei_types.specs.Guard.{waits_for_none}
 use Rattle.pei_types.specs.History.{Pei, issued_peis, pei_issued_by, has_left, begins_fence, ends_fence, before_fence}
 use Rattle.pei_types.specs.Operation.{is_writer}
 use Rattle.history_laws.specs.Members.{In}
-use Rattle.history_laws.specs.Tracking.{issued_by, fence_is_on, writers_awaited, Agrees}
+use Rattle.history_laws.specs.TrackedPeis.{issued_by, fence_is_on, writers_awaited, Agrees}
 use Rattle.history_laws.specs.Fences.{Settles, fences_rightly}
 use Rattle.history_laws.proofs.Lists.{any_push, or_parts_cases, in_filter, filter_in}
 use Rattle.history_laws.proofs.Grows.{issued_kept, issued_more, fence_is_on-push, before_fence_kept, before_fence_here}

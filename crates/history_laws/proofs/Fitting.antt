@@ -18,15 +18,15 @@ use Rattle.pei_types.specs.declared.events.EventKind.TheVariants as event
 use Rattle.pei_types.specs.declared.machines.MachineSpec.{MachineSpec}
 use Rattle.pei_types.specs.Blocks.{same_pei}
 use Rattle.pei_types.specs.Calls.{is_actor_of, follows_phase}
-use Rattle.pei_types.specs.Coherence.{State, state_after, first_unentered, first_unfinished, entry_is_taken, look_in, fence_of, free_lane}
+use Rattle.pei_types.specs.MachineState.{State, state_after, first_unentered, first_unfinished, entry_is_taken, look_in, fence_of, free_lane}
 use Rattle.pei_types.specs.Core.{CoreNext, Calls, next_of_core}
 use Rattle.pei_types.specs.Legal.{MeetsFlatOf, MeetsFlat}
 use Rattle.pei_types.specs.Next.{Makes, Stalls, issue_row, fence_row, draining_or, enter_row}
 use Rattle.pei_types.specs.Program.{Listing, Contents}
 use Rattle.pei_types.proofs.Histories.{each_push, each_of_from}
 use Rattle.pei_types.proofs.Pushes.{state_after-push}
-use Rattle.history_laws.specs.Tracking.{Agrees}
-use Rattle.history_laws.specs.Entering.{InTurn}
+use Rattle.history_laws.specs.TrackedPeis.{Agrees}
+use Rattle.history_laws.specs.EntryOrder.{InTurn}
 use Rattle.history_laws.specs.Fits.{Fits, AsksForFence}
 use Rattle.history_laws.specs.Sound.{Sound, SoundRun, IsSoundEvent}
 use Rattle.history_laws.proofs.Steps.{agrees_next, agrees_at_start}

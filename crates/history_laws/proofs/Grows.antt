@@ -14,7 +14,7 @@ use Rattle.pei_types.specs.Blocks.{same_core, same_pei}
 use Rattle.pei_types.specs.History.{Pei, issued_peis, pei_issued_by, pei_of, phase_of, phase_after, is_about, seq_named, is_number, is_enter, is_act, is_leave, has_entered, has_acted, has_left, unfinished_peis, begins_fence, ends_fence, before_fence}
 use Rattle.pei_types.specs.Operation.{is_writer}
 use Rattle.pei_types.proofs.Pushes.{issued_peis-push, phase_of-push}
-use Rattle.history_laws.specs.Tracking.{fence_is_on, fence_in}
+use Rattle.history_laws.specs.TrackedPeis.{fence_is_on, fence_in}
 use Rattle.history_laws.proofs.Lists.{any_push, filter-filter}
 use Rattle.pei_types.proofs.Tests.{not-or}
 use Rattle.std.proofs.Math.Bool.{or-false}

@@ -15,14 +15,14 @@ use Rattle.pei_types.specs.declared.operations.Mode.TheVariants as mode
 use Rattle.pei_types.specs.Blocks.{entry_of, same_core, same_lane, same_pei}
 use Rattle.pei_types.specs.Calls.{is_actor_of}
 use Rattle.pei_types.specs.Claims.{Claims, no_claims, with_announcement, is_granted, with_claim, without_claim}
-use Rattle.pei_types.specs.Coherence.{State, look_in, is_phase, with_phase, pei_id}
+use Rattle.pei_types.specs.MachineState.{State, look_in, is_phase, with_phase, pei_id}
 use Rattle.pei_types.specs.Operation.{mode_of}
 use Rattle.pei_types.specs.Recency.{change_at, list_at, without}
 use Rattle.pei_types.specs.Schedule.{LaneClaim, Free, Held, Spent, Announced, after_leave}
 use Rattle.history_laws.specs.Members.{In}
-use Rattle.history_laws.specs.Tracking.{is_past_issue}
-use Rattle.history_laws.specs.Entering.{LanesApart}
-use Rattle.history_laws.specs.Holding.{claim_at, holds_entry, same_mode, one, count_all, counted, waits_on, Holding}
+use Rattle.history_laws.specs.TrackedPeis.{is_past_issue}
+use Rattle.history_laws.specs.EntryOrder.{LanesApart}
+use Rattle.history_laws.specs.Holders.{claim_at, holds_entry, same_mode, one, count_all, counted, waits_on, Holding}
 use Rattle.history_laws.proofs.Lists.{get_or-change_at_same, get_or-change_at_other, find_filter, find_Some, find_None, find-map, find_agree, each_in, in_map, in_filter, in_push}
 use Rattle.history_laws.proofs.Agree.{moved}
 use Rattle.history_laws.proofs.Counting.{changed, claim_here, claim_other, length-changed, count_change, count_few, count_some}

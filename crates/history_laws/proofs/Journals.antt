@@ -8,7 +8,7 @@ use Rattle.pei_types.specs.declared.events.EventKind.{EventKind}
 use Rattle.pei_types.specs.declared.events.EventKind.TheVariants as event
 use Rattle.pei_types.specs.declared.machines.MachineSpec.{MachineSpec}
 use Rattle.pei_types.specs.Calls.{AnswersCall, AnswersNext, is_actor_of}
-use Rattle.pei_types.specs.Coherence.{State, state_after, fence_of, look_of, look_in, pei_id}
+use Rattle.pei_types.specs.MachineState.{State, state_after, fence_of, look_of, look_in, pei_id}
 use Rattle.pei_types.specs.Core.{CoreNext, next_of_core}
 use Rattle.pei_types.specs.declared.operations.Place.{Place}
 use Rattle.pei_types.specs.declared.inflight_looks.PeiLook.{PeiLook}
@@ -26,10 +26,11 @@ use Rattle.history_laws.proofs.Clauses.{IsOf, of_lane}
 use Rattle.pei_types.specs.Guard.{guard}
 use Rattle.pei_types.specs.Legal.{MeetsAll, Legal, Meets, MeetsSome, MeetsFlat, MachineLegal, EachEvent, EachFrom}
 use Rattle.pei_types.specs.Program.{Listing, Contents}
-use Rattle.pei_types.specs.Turns.{IsNextOf, PlacesByMonitor, lane_turn}
+use Rattle.pei_types.specs.StateClauses.{PlacesByMonitor}
+use Rattle.pei_types.specs.Turns.{IsNextOf, lane_turn}
 use Rattle.pei_types.proofs.Histories.{each_of_from, from_of_each}
-use Rattle.history_laws.specs.Tracking.{Agrees, fence_is_on}
-use Rattle.history_laws.specs.Entering.{enters_rightly}
+use Rattle.history_laws.specs.TrackedPeis.{Agrees, fence_is_on}
+use Rattle.history_laws.specs.EntryOrder.{enters_rightly}
 use Rattle.history_laws.specs.Fences.{fences_rightly}
 use Rattle.history_laws.specs.Fits.{Fits, AsksForFence, EntersFree}
 use Rattle.history_laws.specs.Sound.{GoesByRow, MeetsState, Sound, SoundRun, IsSoundEvent, IssuesUnfenced}

@@ -16,7 +16,7 @@ use Rattle.pei_types.specs.declared.events.EventKind.TheVariants as event
 use Rattle.pei_types.specs.declared.machines.MachineSpec.{MachineSpec}
 use Rattle.pei_types.specs.Blocks.{block_of, word_of, same_pei, vault_of, tag_of, llc_set_of}
 use Rattle.pei_types.specs.Calls.{Messages, side_of, is_actor_of}
-use Rattle.pei_types.specs.Coherence.{State, state_after, Line, LlcLine, letter_of, mark_of, is_i, is_owned, is_absent, is_clean, is_dirty, no_other_has, is_sealed, conflict, first_unentered, first_unfinished, entry_is_taken, look_in, fence_of, free_lane, queue_of, queue_is_full, llc_set}
+use Rattle.pei_types.specs.MachineState.{State, state_after, Line, LlcLine, letter_of, mark_of, is_i, is_owned, is_absent, is_clean, is_dirty, no_other_has, is_sealed, conflict, first_unentered, first_unfinished, entry_is_taken, look_in, fence_of, free_lane, queue_of, queue_is_full, llc_set}
 use Rattle.pei_types.specs.Core.{CoreNext, Calls, Busy, Ended}
 use Rattle.pei_types.specs.FlatMemory.{flat_block}
 use Rattle.pei_types.specs.Guard.{letter_serves}

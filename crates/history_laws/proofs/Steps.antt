@@ -17,7 +17,7 @@ use Rattle.pei_types.specs.declared.events.EventKind.TheVariants as event
 use Rattle.pei_types.specs.declared.machines.MachineSpec.{MachineSpec}
 use Rattle.pei_types.specs.Blocks.{same_core}
 use Rattle.pei_types.specs.Calls.{AnswersCall, follows_phase}
-use Rattle.pei_types.specs.Coherence.{State, start_state, next_state, state_after, after_placing, after_reading, after_acting, after_acting_in, after_taking_back, after_invalidating, after_downgrading, look_of, pei_id, is_phase, with_phase, is_ahead, letter_of, free_lane}
+use Rattle.pei_types.specs.MachineState.{State, start_state, next_state, state_after, after_placing, after_reading, after_acting, after_acting_in, after_taking_back, after_invalidating, after_downgrading, look_of, pei_id, is_phase, with_phase, is_ahead, letter_of, free_lane}
 use Rattle.pei_types.specs.Core.{CoreNext}
 use Rattle.pei_types.specs.Guard.{guard, is_lane}
 use Rattle.pei_types.specs.Legal.{EachEvent, EachFrom, MachineLegal}
@@ -26,7 +26,7 @@ use Rattle.pei_types.specs.History.{is_enter, is_act}
 use Rattle.pei_types.specs.Operation.{is_writer}
 use Rattle.pei_types.proofs.Histories.{from_of_each}
 use Rattle.pei_types.proofs.Pushes.{state_after-push}
-use Rattle.history_laws.specs.Tracking.{Agrees, issues_next, IsTrackable}
+use Rattle.history_laws.specs.TrackedPeis.{Agrees, issues_next, IsTrackable}
 use Rattle.history_laws.proofs.Agree.{Moves, Keeps, agrees_moved, agrees_quiet, agrees_begin, agrees_end, agrees_left, agrees_issued}
 use Rattle.pei_types.proofs.Identities.{core_within}
 use Rattle.std.proofs.Math.Bool.{and-false}

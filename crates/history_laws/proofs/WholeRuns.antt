@@ -24,7 +24,7 @@ use Rattle.pei_types.specs.declared.machines.MachineSpec.{MachineSpec}
 use Rattle.pei_types.specs.Blocks.{entry_of, same_core, same_lane, same_pei, vault_of}
 use Rattle.pei_types.specs.Calls.{is_actor_of, follows_phase}
 use Rattle.pei_types.specs.Claims.{Claims, no_claims, is_granted, with_claim}
-use Rattle.pei_types.specs.Coherence.{State, start_state, state_after, next_state, look_in, look_of, lanes_of, free_lane, first_unentered, entry_is_taken, is_phase, pei_id, with_phase, queue_of, queue_is_full}
+use Rattle.pei_types.specs.MachineState.{State, start_state, state_after, next_state, look_in, look_of, lanes_of, free_lane, first_unentered, entry_is_taken, is_phase, pei_id, with_phase, queue_of, queue_is_full}
 use Rattle.pei_types.specs.History.{is_enter}
 use Rattle.pei_types.specs.Core.{CoreNext, Calls, Busy, Ended, next_of_core}
 use Rattle.pei_types.specs.Ends.{all_ended}
@@ -40,9 +40,9 @@ use Rattle.pei_types.specs.Recency.{change_at}
 use Rattle.pei_types.specs.Schedule.{Run, Policy, LaneClaim, Free, Announced, Held, Spent, whole_table, by_row, after_stall, with_lane_event, with_step, claim_of, after_try, claims_at, after_leave, toward_enter, claiming, lane_step, program_step, step_of_lane, turn, run_at_start, next_actor, scheduled_run_from, scheduled_run}
 use Rattle.pei_types.proofs.Pushes.{state_after-push}
 use Rattle.history_laws.specs.Members.{In}
-use Rattle.history_laws.specs.Tracking.{is_past_issue, Agrees}
+use Rattle.history_laws.specs.TrackedPeis.{is_past_issue, Agrees}
 use Rattle.history_laws.specs.Fits.{Fits, EntersFree}
-use Rattle.history_laws.specs.Holding.{claim_at, holds_entry, same_mode, count_in, count_all, counted, waits_on, Holding}
+use Rattle.history_laws.specs.Holders.{claim_at, holds_entry, same_mode, count_in, count_all, counted, waits_on, Holding}
 use Rattle.history_laws.specs.Runs.{WholeRun}
 use Rattle.history_laws.specs.Sound.{ChoosesActors, GoesByRow}
 use Rattle.history_laws.proofs.Lists.{find_Some, change_at_same, or_parts_cases}

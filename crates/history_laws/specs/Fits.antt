@@ -10,12 +10,12 @@ use Rattle.pei_types.specs.declared.events.EventKind.TheVariants as event
 use Rattle.pei_types.specs.declared.machines.MachineSpec.{MachineSpec}
 use Rattle.pei_types.specs.Blocks.{block_of}
 use Rattle.pei_types.specs.Calls.{Side, Programs, Peis, Messages, side_of, is_actor_of, follows_phase}
-use Rattle.pei_types.specs.Coherence.{State, conflict, first_unentered, first_unfinished, entry_is_taken, look_in, fence_of, free_lane}
+use Rattle.pei_types.specs.MachineState.{State, conflict, first_unentered, first_unfinished, entry_is_taken, look_in, fence_of, free_lane}
 use Rattle.pei_types.specs.Core.{CoreNext, Calls}
 use Rattle.pei_types.specs.FlatMemory.{flat_block, flat_word}
 use Rattle.pei_types.specs.Operation.{reply_of}
 use Rattle.pei_types.specs.Program.{Contents}
-use Rattle.history_laws.specs.Tracking.{fence_is_on}
+use Rattle.history_laws.specs.TrackedPeis.{fence_is_on}
 
 -- an event of a core's program, where x is what the core does next
 abbrev pub FitsProgram : CoreNext → MachineSpec → Contents → List Event → State → Actor → EventKind → Type 0

@@ -15,23 +15,24 @@ use Rattle.pei_types.specs.declared.events.EventKind.TheVariants as event
 use Rattle.pei_types.specs.declared.machines.MachineSpec.{MachineSpec}
 use Rattle.pei_types.specs.Blocks.{entry_of, same_core, same_pei, same_lane}
 use Rattle.pei_types.specs.Calls.{AnswersCall, all_left, is_actor_of, FollowsPei, follows_phase}
-use Rattle.pei_types.specs.Coherence.{State, entry_is_taken, start_state, next_state, state_after, conflict, first_unentered, first_unfinished, fence_of, look_in, look_of, pei_id}
+use Rattle.pei_types.specs.MachineState.{State, entry_is_taken, start_state, next_state, state_after, conflict, first_unentered, first_unfinished, fence_of, look_in, look_of, pei_id}
 use Rattle.pei_types.specs.Core.{CoreNext, next_of_core}
 use Rattle.pei_types.specs.Exclusion.{conflicts, EntersAlone}
 use Rattle.pei_types.specs.Fence.{earlier_writers_left}
 use Rattle.pei_types.specs.History.{Pei, pei_of, phase_of, issued_peis, has_entered, unfinished_peis, active_peis, entered_peis}
 use Rattle.pei_types.specs.Legal.{EachEvent, Legal, MachineLegal, FlatLegal, MeetsFlat, MeetsAll}
 use Rattle.pei_types.specs.Guard.{guard}
-use Rattle.pei_types.specs.Turns.{IsNextOf, PlacesByMonitor}
+use Rattle.pei_types.specs.StateClauses.{PlacesByMonitor}
+use Rattle.pei_types.specs.Turns.{IsNextOf}
 use Rattle.pei_types.specs.Operation.{mode_of}
 use Rattle.pei_types.specs.Program.{Listing, Contents}
 use Rattle.pei_types.specs.Race.{racing_pei}
 use Rattle.pei_types.specs.Schedule.{Run, run_at_start, turn, Policy, LaneClaim, Held, whole_table, scheduled_run, round_robin, serial, by_draws, by_list}
 use Rattle.pei_types.specs.Claims.{Claims, no_claims}
-use Rattle.history_laws.specs.Entering.{LanesApart}
-use Rattle.history_laws.specs.Holding.{claim_at, counted, holds_entry, waits_on, Holding}
+use Rattle.history_laws.specs.EntryOrder.{LanesApart}
+use Rattle.history_laws.specs.Holders.{claim_at, counted, holds_entry, waits_on, Holding}
 use Rattle.history_laws.specs.Members.{In}
-use Rattle.history_laws.specs.Tracking.{as_issued, is_past_issue, fence_is_on, IsTracked, Agrees, issues_next, IsTrackable}
+use Rattle.history_laws.specs.TrackedPeis.{as_issued, is_past_issue, fence_is_on, IsTracked, Agrees, issues_next, IsTrackable}
 use Rattle.history_laws.specs.Fits.{Fits, AsksForFence, EntersFree}
 use Rattle.history_laws.specs.Runs.{WholeRun}
 use Rattle.history_laws.specs.Sound.{Sound, IsSoundEvent, SoundRun, ChoosesActors, IssuesUnfenced, GoesByRow, MeetsState}

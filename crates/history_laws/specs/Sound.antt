@@ -7,15 +7,16 @@ use Rattle.pei_types.specs.declared.events.EventKind.{EventKind}
 use Rattle.pei_types.specs.declared.events.EventKind.TheVariants as event
 use Rattle.pei_types.specs.declared.machines.MachineSpec.{MachineSpec}
 use Rattle.pei_types.specs.Calls.{AnswersCall, is_actor_of}
-use Rattle.pei_types.specs.Coherence.{state_after, next_state}
+use Rattle.pei_types.specs.MachineState.{state_after, next_state}
 use Rattle.pei_types.specs.Core.{CoreNext, next_of_core}
 use Rattle.pei_types.specs.Guard.{guard}
 use Rattle.pei_types.specs.Legal.{FlatLegal}
 use Rattle.pei_types.specs.Program.{Listing, Contents}
 use Rattle.pei_types.specs.Schedule.{Policy}
-use Rattle.pei_types.specs.Turns.{IsNextOf, EvictsLast, SealsHold}
-use Rattle.history_laws.specs.Tracking.{Agrees, issues_next, fence_is_on}
-use Rattle.history_laws.specs.Entering.{InTurn, enters_rightly}
+use Rattle.pei_types.specs.StateClauses.{EvictsLast, SealsHold}
+use Rattle.pei_types.specs.Turns.{IsNextOf}
+use Rattle.history_laws.specs.TrackedPeis.{Agrees, issues_next, fence_is_on}
+use Rattle.history_laws.specs.EntryOrder.{InTurn, enters_rightly}
 use Rattle.history_laws.specs.Fences.{Settles, fences_rightly}
 use Rattle.history_laws.specs.Fits.{AsksForFence, EntersFree}
 

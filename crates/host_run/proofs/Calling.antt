@@ -23,7 +23,7 @@ use Rattle.pei_types.specs.declared.machines.MachineSpec.{MachineSpec}
 use Rattle.pei_types.specs.declared.stamps.Stamped.{Stamped}
 use Rattle.pei_types.specs.Blocks.{same_core, same_pei}
 use Rattle.pei_types.specs.Calls.{follows_phase, is_actor_of, side_of}
-use Rattle.pei_types.specs.Coherence.{State, state_after, fence_of, free_lane, is_phase, look_in}
+use Rattle.pei_types.specs.MachineState.{State, state_after, fence_of, free_lane, is_phase, look_in}
 use Rattle.pei_types.specs.Core.{Calls, core_config, core_next}
 use Rattle.pei_types.specs.FlatMemory.{flat_block}
 use Rattle.pei_types.specs.History.{begins_fence, ends_fence, pei_of}
@@ -34,11 +34,11 @@ use Rattle.pei_types.specs.Turns.{is_entering}
 use Rattle.atomic_table.specs.Seated.{TableId}
 use Rattle.bank_laws.specs.Banks.{bank_of, journal_of, log_of}
 use Rattle.bank_laws.specs.Rows.{IsCallOf, IsMadeIn, IsRowIn, bank_look, pei_turn_in, program_turn_in, turn_in, without_waits}
-use Rattle.core_exec.specs.Standing.{Standing}
+use Rattle.core_exec.specs.CoreView.{Standing}
 use Rattle.fabric.specs.Banks.{BankHistory, IsEntryFreeIn, IsFenceDone, IsFreeIn, IsHome, IsLaneFree, IsNumberNew, FencesRightly, events_of, lane_turn_of, stall_in, waits_of}
 use Rattle.fabric.specs.Looks.{fence_seen, seen}
 use Rattle.fabric.specs.declared.looks.CoreLook.{CoreLook}
-use Rattle.history_laws.specs.Tracking.{is_past_issue}
+use Rattle.history_laws.specs.TrackedPeis.{is_past_issue}
 use Rattle.shared_table.specs.declared.claims.Claim.TheVariants.{Held}
 use Rattle.shared_table.specs.Claims.{is_fence}
 use Rattle.shared_table.specs.Journal.{events}
@@ -51,10 +51,10 @@ use Rattle.thread_laws.specs.OwnEvents.{placed_of}
 use Rattle.thread_laws.proofs.Rows.{IsNoPeis, KindIsOf, TurnIsOf, pei_is_of}
 use Rattle.host_run.specs.declared.own_peis.OwnPei.{OwnPei}
 use Rattle.host_run.specs.declared.own_peis.OwnPeis.{OwnPeis}
-use Rattle.host_run.specs.Following.{FencesAtHome, HasSlot, KeepsUp}
+use Rattle.host_run.specs.ThreadInvariant.{FencesAtHome, HasSlot, KeepsUp}
 use Rattle.host_run.specs.Laws.{TurnLaws}
 use Rattle.host_run.specs.Own.{as_own, core_of, entry_of, is_spent, own_events, own_state, pei_in}
-use Rattle.host_run.specs.Turning.{IsGranted}
+use Rattle.host_run.specs.Grant.{IsGranted}
 use Rattle.host_run.proofs.Counts.{events_few, issues_few}
 use Rattle.host_run.proofs.Looks.{lane_fits}
 use Rattle.host_run.proofs.OwnLanes.{lane_is, own_look, part}

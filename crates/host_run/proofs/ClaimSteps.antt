@@ -11,7 +11,7 @@ use Rattle.pei_types.specs.declared.operations.Mode.{Mode}
 use Rattle.pei_types.specs.declared.operations.Mode.TheVariants.{Reader, Writer}
 use Rattle.pei_types.specs.Program.{Listing, Contents}
 use Rattle.bank_laws.specs.Logs.{IsFront, Rises}
-use Rattle.core_exec.specs.Standing.{Standing}
+use Rattle.core_exec.specs.CoreView.{Standing}
 use Rattle.shared_table.specs.declared.claims.Active.{Active}
 use Rattle.shared_table.specs.declared.claims.Claim.{Claim}
 use Rattle.shared_table.specs.declared.claims.Claim.TheVariants.{Free, Announced, Held}
@@ -27,7 +27,7 @@ use Rattle.shared_table.proofs.Lanes.{has_put}
 use Rattle.host_run.specs.declared.cores.CoreRun.{CoreRun}
 use Rattle.host_run.specs.declared.own_peis.OwnPei.{OwnPei}
 use Rattle.host_run.specs.declared.own_peis.OwnPeis.{OwnPeis}
-use Rattle.host_run.specs.Following.{HasFollowed, IsAtRest, IsDone, IsFull, IsInTurn, IsLetGo, KeepsUp, own_end}
+use Rattle.host_run.specs.ThreadInvariant.{HasFollowed, IsAtRest, IsDone, IsFull, IsInTurn, IsLetGo, KeepsUp, own_end}
 use Rattle.host_run.specs.Laws.{TurnLaws}
 use Rattle.host_run.specs.Own.{FitsPei, IsActiveOf, KeepsActives, KeepsClaims, KeepsLane, KeepsPeis, entry_of, is_spent, pei_in}
 use Rattle.host_run.proofs.LanesAfter.{lane_apart, lane_set, one_claim, same_number}

@@ -8,7 +8,7 @@ use lib.ListN.{get_elem?}
 use Rattle.pei_types.specs.declared.machines.MachineSpec.{MachineSpec}
 use Rattle.pei_types.specs.Program.{Contents}
 use Rattle.fabric.specs.Banks.{BankHistory, bank_at_start, banks_at_start}
-use Rattle.fabric.specs.Merging.{without_log}
+use Rattle.fabric.specs.Merge.{without_log}
 
 -- each bank is of this machine and image, and has the number of its place
 abbrev pub AreOf : MachineSpec → Contents → ℕ → List BankHistory → Type 0

@@ -18,7 +18,7 @@ use Rattle.bank_laws.specs.Banks.{journal_of}
 use Rattle.bank_laws.specs.Logs.{AreOwn, AreStamped, Rises, event_with, history_below, merged}
 use Rattle.bank_laws.proofs.Stamps.{event_found}
 use Rattle.shared_table.specs.declared.claims.Made.{Made}
-use Rattle.shared_table.specs.Closing.{BankEvent, IsJournalOf, events_in, place_of, places_of}
+use Rattle.shared_table.specs.ClosedTable.{BankEvent, IsJournalOf, events_in, place_of, places_of}
 use Rattle.shared_table.specs.Journal.{Place, Filled, Kept, IsMade, by_core, in_bank, log_of, made_by, picked}
 use Rattle.shared_table.proofs.Pairs.{at_unmap}
 use Rattle.shared_table.proofs.Places.{at_log, at_made, log_at, made_at, one_made, same_made}

@@ -7,7 +7,7 @@ use Rattle.pei_types.specs.declared.events.EventKind.TheVariants as event
 use Rattle.pei_types.specs.declared.identifiers.Actor.{Actor}
 use Rattle.pei_types.specs.declared.machines.MachineSpec.{MachineSpec}
 use Rattle.pei_types.specs.Calls.{AnswersCall, AnswersNext, is_actor_of}
-use Rattle.pei_types.specs.Coherence.{State, state_after}
+use Rattle.pei_types.specs.MachineState.{State, state_after}
 use Rattle.pei_types.specs.Core.{CoreNext, next_of_core}
 use Rattle.pei_types.specs.Guard.{guard}
 use Rattle.pei_types.specs.Legal.{EachEvent, Legal, Meets}
@@ -16,7 +16,7 @@ use Rattle.pei_types.proofs.Histories.{each_prefix}
 use Rattle.history_laws.specs.Fits.{AsksForFence}
 use Rattle.history_laws.specs.Laws.{JournalsAreSound}
 use Rattle.history_laws.specs.Sound.{IssuesUnfenced}
-use Rattle.history_laws.specs.Tracking.{fence_is_on}
+use Rattle.history_laws.specs.TrackedPeis.{fence_is_on}
 use Rattle.bank_laws.specs.Rows.{IsGuardedWidely}
 
 -- a core that asks for a fence issues nothing

@@ -24,13 +24,13 @@ use Rattle.bank_laws.specs.Banks.{HasBanks}
 use Rattle.bank_laws.specs.Laws.{LogsMakeLegal}
 use Rattle.bank_laws.specs.Logs.{CoresHandBack, HandsBack, IsFront, merged}
 use Rattle.shared_table.specs.declared.claims.Made.{Made}
-use Rattle.shared_table.specs.Closing.{IsAbsent, Merged, events_in, places_of}
+use Rattle.shared_table.specs.ClosedTable.{IsAbsent, Merged, events_in, places_of}
 use Rattle.shared_table.specs.Journal.{made_by}
 use Rattle.shared_table.specs.Parts.{core_number, filled, mine, seen}
 use Rattle.shared_table.specs.Place.{SeatView}
 use Rattle.shared_table.specs.Receipts.{Account, seat_account}
 use Rattle.thread_laws.proofs.Lanes.{at_of_in, in_of_at}
-use Rattle.host_run.specs.Following.{own_end}
+use Rattle.host_run.specs.ThreadInvariant.{own_end}
 use Rattle.host_run.specs.Own.{own_events, own_log, seen_logs}
 use Rattle.host_run.specs.Runs.{IsOver, IsReceiptOf, IsRunOf}
 use Rattle.host_run.proofs.Looks.{in_range}

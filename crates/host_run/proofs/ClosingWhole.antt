@@ -19,17 +19,17 @@ use Rattle.history_laws.specs.Members.{In}
 use Rattle.history_laws.proofs.Lists.{in_map, map-map, map_in}
 use Rattle.bank_laws.specs.Laws.{BanksKeepApart, LogsMakeLegal}
 use Rattle.bank_laws.specs.Logs.{merged}
-use Rattle.shared_table.specs.Closing.{Merged}
+use Rattle.shared_table.specs.ClosedTable.{Merged}
 use Rattle.shared_table.specs.Parts.{core_number, filled, turn}
 use Rattle.shared_table.specs.Place.{SeatView, all_seats, later_seats}
 use Rattle.shared_table.specs.Receipts.{Account, seat_account}
 use Rattle.shared_table.proofs.Pairs.{at_unmap, each_push}
 use Rattle.thread_laws.proofs.Lanes.{at_of_in, in_of_at}
 use Rattle.fabric.specs.Banks.{BankHistory, bank_at_start, banks_at_start}
-use Rattle.fabric.specs.Merging.{CanMerge, logs_of}
-use Rattle.host_run.specs.Following.{IsDone, own_end}
+use Rattle.fabric.specs.Merge.{CanMerge, logs_of}
+use Rattle.host_run.specs.ThreadInvariant.{IsDone, own_end}
 use Rattle.host_run.specs.Runs.{IsRunOf}
-use Rattle.host_run.specs.Starting.{IsNewSeat}
+use Rattle.host_run.specs.NewSeat.{IsNewSeat}
 use Rattle.host_run.proofs.ClosingBanks.{AreOf, all_banks, at_number}
 use Rattle.host_run.proofs.ClosingLogs.{stamped, merged_is, get_at, at_below}
 use Rattle.host_run.proofs.ClosingMerge.{actors, guarded, unfenced}

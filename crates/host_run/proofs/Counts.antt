@@ -9,7 +9,7 @@ use Rattle.pei_types.specs.declared.identifiers.Actor.{Actor}
 use Rattle.pei_types.specs.declared.identifiers.CoreId.{CoreId}
 use Rattle.pei_types.specs.declared.machines.MachineSpec.{MachineSpec}
 use Rattle.pei_types.specs.declared.stamps.Stamped.{Stamped}
-use Rattle.pei_types.specs.Coherence.{state_after}
+use Rattle.pei_types.specs.MachineState.{state_after}
 use Rattle.pei_types.specs.Recency.{change_at}
 use Rattle.pei_types.proofs.Lists.{each_both, each_map, each_weaker}
 use Rattle.bank_laws.specs.Logs.{Rises}

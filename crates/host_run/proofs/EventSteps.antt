@@ -20,7 +20,7 @@ use Rattle.pei_types.specs.declared.operations.Operands.{Operands}
 use Rattle.pei_types.specs.declared.stamps.Stamped.{Stamped}
 use Rattle.pei_types.specs.Blocks.{same_core}
 use Rattle.pei_types.specs.Calls.{Side, Programs, Peis, Messages, follows_phase, side_of}
-use Rattle.pei_types.specs.Coherence.{state_after, is_phase, look_in}
+use Rattle.pei_types.specs.MachineState.{state_after, is_phase, look_in}
 use Rattle.pei_types.specs.Core.{Calls, after_answer, at_stop, core_after, core_at_start, core_config, core_next, next_of}
 use Rattle.pei_types.specs.History.{ends_fence}
 use Rattle.pei_types.specs.Legal.{EachEvent}
@@ -30,7 +30,7 @@ use Rattle.pei_types.proofs.Tests.{same_self}
 use Rattle.bank_laws.specs.Kept.{FitsInBank}
 use Rattle.bank_laws.specs.Logs.{Rises}
 use Rattle.bank_laws.specs.Rows.{IsRowIn, IsRowOfBank}
-use Rattle.core_exec.specs.Standing.{Standing, is_request, retires}
+use Rattle.core_exec.specs.CoreView.{Standing, is_request, retires}
 use Rattle.fabric.specs.Banks.{BankHistory, events_of}
 use Rattle.shared_table.specs.Actives.{active_in}
 use Rattle.shared_table.specs.Claims.{fence_at}
@@ -46,10 +46,10 @@ use Rattle.thread_laws.specs.OwnEvents.{IssuesBy, IssuesNext}
 use Rattle.thread_laws.proofs.Rows.{IsEventOf, IsNoPeis, KindIsOf}
 use Rattle.host_run.specs.declared.cores.CoreRun.{CoreRun}
 use Rattle.host_run.specs.declared.own_peis.OwnPeis.{OwnPeis}
-use Rattle.host_run.specs.Following.{FencesAtHome, HasSlot, HasTakenIn, IsAtRest, IsInTurn, KeepsUp, end_after, own_end}
+use Rattle.host_run.specs.ThreadInvariant.{FencesAtHome, HasSlot, HasTakenIn, IsAtRest, IsInTurn, KeepsUp, end_after, own_end}
 use Rattle.host_run.specs.Laws.{TurnLaws}
 use Rattle.host_run.specs.Own.{IsLane, IsOfItsLane, IsOnLane, KeepsClaims, KeepsEvents, OfLane, cleared_after, core_of, lanes_after, own_events, spent_after}
-use Rattle.host_run.specs.Turning.{IsGranted}
+use Rattle.host_run.specs.Grant.{IsGranted}
 use Rattle.host_run.proofs.Counts.{events_few, issues_few}
 use Rattle.host_run.proofs.Given.{ended_next, followed_next, peis_next, taken_next}
 use Rattle.host_run.proofs.Giving.{claimed, issues_next, may_make, others}

@@ -27,7 +27,7 @@ use Rattle.bank_laws.specs.Logs.{HandsBack, IsFront, Rises}
 use Rattle.bank_laws.specs.Rows.{IsRowIn}
 use Rattle.bank_laws.proofs.Histories.{placed_push}
 use Rattle.coherence_laws.specs.Sets.{EachPair}
-use Rattle.core_exec.specs.Standing.{Standing}
+use Rattle.core_exec.specs.CoreView.{Standing}
 use Rattle.history_laws.specs.Members.{In}
 use Rattle.history_laws.proofs.Lists.{each_in, map-map}
 use Rattle.shared_table.specs.declared.claims.Active.{Active}
@@ -41,7 +41,7 @@ use Rattle.shared_table.specs.Timed.{IsAbove}
 use Rattle.thread_laws.specs.OwnEvents.{placed_of}
 use Rattle.thread_laws.proofs.Lanes.{at_of_in}
 use Rattle.host_run.specs.declared.own_peis.OwnPeis.{OwnPeis}
-use Rattle.host_run.specs.Following.{FencesAtHome, HasFollowed, HasSlot, HasTakenIn, KeepsUp, end_after, own_end}
+use Rattle.host_run.specs.ThreadInvariant.{FencesAtHome, HasFollowed, HasSlot, HasTakenIn, KeepsUp, end_after, own_end}
 use Rattle.host_run.specs.Laws.{TurnLaws}
 use Rattle.host_run.specs.Own.{KeepsEvents, KeepsPeis, cleared_after, core_of, own_events, own_log, seen_logs}
 use Rattle.host_run.proofs.OwnLanes.{part}

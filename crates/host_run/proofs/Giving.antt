@@ -17,7 +17,7 @@ use Rattle.pei_types.specs.declared.machines.MachineSpec.{MachineSpec}
 use Rattle.pei_types.specs.declared.stamps.Stamped.{Stamped}
 use Rattle.pei_types.specs.Blocks.{fold_of, same_core, same_lane, same_pei}
 use Rattle.pei_types.specs.Calls.{side_of}
-use Rattle.pei_types.specs.Coherence.{state_after, pei_id}
+use Rattle.pei_types.specs.MachineState.{state_after, pei_id}
 use Rattle.pei_types.specs.History.{Pei, ends_fence, entered_peis, issued_peis, pei_issued_by, pei_of}
 use Rattle.pei_types.specs.Legal.{EachEvent}
 use Rattle.pei_types.specs.Limits.{log_two}
@@ -29,9 +29,9 @@ use Rattle.pei_types.proofs.Identities.{same_core_is}
 use Rattle.pei_types.proofs.Histories.{each_last}
 use Rattle.atomic_table.specs.Seated.{TableId}
 use Rattle.bank_laws.specs.Rows.{IsRowIn}
-use Rattle.core_exec.specs.Standing.{Standing}
+use Rattle.core_exec.specs.CoreView.{Standing}
 use Rattle.history_laws.specs.Members.{In}
-use Rattle.history_laws.specs.Tracking.{IsTracked, as_issued}
+use Rattle.history_laws.specs.TrackedPeis.{IsTracked, as_issued}
 use Rattle.history_laws.proofs.Lists.{each_of, find_Some, in_filter, in_map, map_in}
 use Rattle.shared_table.specs.declared.claims.Active.{Active}
 use Rattle.shared_table.specs.declared.claims.Claim.{Claim}
@@ -53,10 +53,10 @@ use Rattle.thread_laws.proofs.Lanes.{at_of_in, in_of_at}
 use Rattle.thread_laws.proofs.Rows.{IsNoPeis, KindIsOf}
 use Rattle.host_run.specs.declared.own_peis.OwnPei.{OwnPei}
 use Rattle.host_run.specs.declared.own_peis.OwnPeis.{OwnPeis}
-use Rattle.host_run.specs.Following.{HasSlot, KeepsUp}
+use Rattle.host_run.specs.ThreadInvariant.{HasSlot, KeepsUp}
 use Rattle.host_run.specs.Laws.{TurnLaws}
 use Rattle.host_run.specs.Own.{FitsPei, IsActiveOf, KeepsActives, KeepsClaims, KeepsLane, as_own, core_of, entry_of, is_spent, own_events, pei_in}
-use Rattle.host_run.specs.Turning.{IsGranted}
+use Rattle.host_run.specs.Grant.{IsGranted}
 use Rattle.host_run.proofs.OwnLanes.{own_pei}
 use Rattle.host_run.proofs.RowCases.{LaneRow, ProgramRow, program_no_peis, row_cases}
 

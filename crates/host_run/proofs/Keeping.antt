@@ -18,7 +18,7 @@ use Rattle.pei_types.specs.declared.operations.Op.{Op}
 use Rattle.pei_types.specs.declared.operations.Operands.{Operands}
 use Rattle.pei_types.specs.declared.operations.Place.TheVariants as place
 use Rattle.pei_types.specs.Blocks.{same_core, same_pei}
-use Rattle.pei_types.specs.Coherence.{State, is_phase, lanes_of, look_in, pei_id, state_after, with_phase}
+use Rattle.pei_types.specs.MachineState.{State, is_phase, lanes_of, look_in, pei_id, state_after, with_phase}
 use Rattle.pei_types.specs.History.{begins_fence, ends_fence}
 use Rattle.pei_types.specs.Operation.{mode_of}
 use Rattle.pei_types.specs.Recency.{change_at, without}

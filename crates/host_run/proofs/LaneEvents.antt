@@ -12,14 +12,14 @@ use Rattle.pei_types.specs.declared.identifiers.CoreId.{CoreId}
 use Rattle.pei_types.specs.declared.identifiers.Lane.{Lane}
 use Rattle.pei_types.specs.declared.machines.MachineSpec.{MachineSpec}
 use Rattle.pei_types.specs.declared.stamps.Stamped.{Stamped}
-use Rattle.pei_types.specs.Coherence.{state_after}
+use Rattle.pei_types.specs.MachineState.{state_after}
 use Rattle.pei_types.specs.Core.{Calls, core_config, core_next, next_of}
 use Rattle.pei_types.specs.History.{ends_fence}
 use Rattle.pei_types.specs.Next.{Makes}
 use Rattle.pei_types.specs.Program.{Listing, Contents}
 use Rattle.pei_types.specs.Turns.{is_entering}
 use Rattle.bank_laws.specs.Rows.{IsCallOf, IsRowIn, bank_look}
-use Rattle.core_exec.specs.Standing.{Standing}
+use Rattle.core_exec.specs.CoreView.{Standing}
 use Rattle.fabric.specs.Banks.{AsksWhileFenced, BankHistory, FencesRightly, IsEntryFreeIn, IsHome, IsLaneFree, IsNew, IsNumberNew, call_turn_of, lane_turn_of, waits_of}
 use Rattle.fabric.specs.Looks.{seen}
 use Rattle.fabric.specs.declared.looks.CoreLook.{CoreLook}
@@ -35,10 +35,10 @@ use Rattle.thread_laws.proofs.Lanes.{at_of_in}
 use Rattle.host_run.specs.declared.cores.CoreRun.{CoreRun}
 use Rattle.host_run.specs.declared.own_peis.OwnPei.{OwnPei}
 use Rattle.host_run.specs.declared.own_peis.OwnPeis.{OwnPeis}
-use Rattle.host_run.specs.Following.{FencesAtHome, HasSlot, KeepsUp}
+use Rattle.host_run.specs.ThreadInvariant.{FencesAtHome, HasSlot, KeepsUp}
 use Rattle.host_run.specs.Laws.{TurnLaws}
 use Rattle.host_run.specs.Own.{core_of, entry_of, is_spent, own_events, own_state, pei_in}
-use Rattle.host_run.specs.Turning.{IsGranted}
+use Rattle.host_run.specs.Grant.{IsGranted}
 use Rattle.host_run.proofs.EventSteps.{next_is}
 use Rattle.host_run.proofs.Calling.{call_at_home, call_ends, call_grants_none, call_is_row, enters, entry_is_free, fence_fits, free_fits, goes_on, lane_at_home, lane_ends_none, lane_granted, lane_is_row, number_fits}
 

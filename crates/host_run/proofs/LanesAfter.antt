@@ -19,17 +19,17 @@ use Rattle.pei_types.specs.declared.inflight_looks.Phase.TheVariants as phase
 use Rattle.pei_types.specs.declared.machines.MachineSpec.{MachineSpec}
 use Rattle.pei_types.specs.declared.stamps.Stamped.{Stamped}
 use Rattle.pei_types.specs.Calls.{Side, follows_phase, side_of}
-use Rattle.pei_types.specs.Coherence.{State, state_after, free_lane, lanes_of, look_in}
+use Rattle.pei_types.specs.MachineState.{State, state_after, free_lane, lanes_of, look_in}
 use Rattle.pei_types.specs.declared.identifiers.BlockNo.{BlockNo}
 use Rattle.pei_types.specs.declared.operations.Op.{Op}
 use Rattle.pei_types.specs.declared.operations.Operands.{Operands}
-use Rattle.pei_types.specs.Coherence.{is_phase}
+use Rattle.pei_types.specs.MachineState.{is_phase}
 use Rattle.pei_types.specs.Operation.{mode_of}
 use Rattle.pei_types.specs.Program.{Listing, Contents}
 use Rattle.pei_types.specs.Turns.{is_entering}
 use Rattle.bank_laws.specs.Banks.{bank_of}
 use Rattle.bank_laws.specs.Rows.{IsRowIn}
-use Rattle.core_exec.specs.Standing.{Standing}
+use Rattle.core_exec.specs.CoreView.{Standing}
 use Rattle.history_laws.specs.Members.{In}
 use Rattle.history_laws.proofs.Lists.{find_Some}
 use Rattle.shared_table.specs.declared.claims.Active.{Active}
@@ -47,10 +47,10 @@ use Rattle.thread_laws.proofs.Lanes.{at_of_in, in_of_at}
 use Rattle.thread_laws.proofs.Rows.{IsNoPeis, KindIsOf}
 use Rattle.host_run.specs.declared.own_peis.OwnPei.{OwnPei}
 use Rattle.host_run.specs.declared.own_peis.OwnPeis.{OwnPeis}
-use Rattle.host_run.specs.Following.{HasSlot, KeepsUp}
+use Rattle.host_run.specs.ThreadInvariant.{HasSlot, KeepsUp}
 use Rattle.host_run.specs.Laws.{TurnLaws}
 use Rattle.host_run.specs.Own.{IsActiveOf, IsLane, KeepsActives, KeepsClaims, KeepsLane, as_entered, as_own, core_of, entry_of, is_spent, lanes_after, own_events, own_lanes, pei_in, spent_after}
-use Rattle.host_run.specs.Turning.{IsGranted}
+use Rattle.host_run.specs.Grant.{IsGranted}
 use Rattle.host_run.proofs.Giving.{NewActive, active_of_in, claimed, continues, follows, in_active_of, issues_next, lane_pei, more_actives}
 use Rattle.host_run.proofs.Looks.{lane_fits}
 use Rattle.host_run.proofs.OwnLanes.{lane_is, lane_within, own_pei}

@@ -17,7 +17,7 @@ use Rattle.pei_types.specs.declared.events.EventKind.{EventKind}
 use Rattle.pei_types.specs.declared.events.EventKind.TheVariants as event
 use Rattle.pei_types.specs.declared.machines.MachineSpec.{MachineSpec}
 use Rattle.pei_types.specs.Blocks.{same_core, same_lane, same_pei}
-use Rattle.pei_types.specs.Coherence.{State, state_after, with_phase, look_in, lanes_of, free_lane, is_phase, pei_id}
+use Rattle.pei_types.specs.MachineState.{State, state_after, with_phase, look_in, lanes_of, free_lane, is_phase, pei_id}
 use Rattle.pei_types.specs.Legal.{EachEvent, EachFrom}
 use Rattle.pei_types.specs.Next.{CoreLook}
 use Rattle.pei_types.specs.Recency.{change_at}
@@ -26,7 +26,7 @@ use Rattle.pei_types.proofs.Identities.{same_core_is}
 use Rattle.pei_types.proofs.Lists.{each_append, each_weaker, each_filter}
 use Rattle.history_laws.proofs.Lists.{each_of, find_agree, find_None, find_Some, in_map, map_in}
 use Rattle.pei_types.proofs.Tests.{same_self}
-use Rattle.history_laws.specs.Entering.{LanesApart}
+use Rattle.history_laws.specs.EntryOrder.{LanesApart}
 use Rattle.history_laws.specs.Members.{In}
 use Rattle.coherence_laws.specs.Sets.{EachPair}
 use Rattle.bank_laws.specs.Laws.{BanksMerge, CoresGoOn}

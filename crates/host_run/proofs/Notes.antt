@@ -10,7 +10,7 @@ use Rattle.pei_types.specs.declared.inflight_looks.PeiLook.{PeiLook}
 use Rattle.pei_types.specs.declared.inflight_looks.Phase.{Phase}
 use Rattle.pei_types.specs.declared.inflight_looks.Phase.TheVariants as phase
 use Rattle.pei_types.specs.Blocks.{same_core, same_lane, same_pei}
-use Rattle.pei_types.specs.Coherence.{State, is_phase, with_phase}
+use Rattle.pei_types.specs.MachineState.{State, is_phase, with_phase}
 use Rattle.pei_types.specs.Recency.{without}
 use Rattle.pei_types.proofs.Identities.{same_core_is, same_pei_is}
 use Rattle.pei_types.proofs.Tests.{same_self}

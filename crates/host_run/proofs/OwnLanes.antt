@@ -12,13 +12,13 @@ use Rattle.pei_types.specs.declared.inflight_looks.PeiLook.{PeiLook}
 use Rattle.pei_types.specs.declared.machines.MachineSpec.{MachineSpec}
 use Rattle.pei_types.specs.declared.stamps.Stamped.{Stamped}
 use Rattle.pei_types.specs.Calls.{is_actor_of}
-use Rattle.pei_types.specs.Coherence.{State, state_after, look_in}
+use Rattle.pei_types.specs.MachineState.{State, state_after, look_in}
 use Rattle.pei_types.specs.Legal.{EachEvent}
 use Rattle.pei_types.specs.Program.{Listing, Contents}
 use Rattle.atomic_table.specs.Seated.{TableId}
 use Rattle.bank_laws.specs.Banks.{HasBanks, bank_of, journal_of}
 use Rattle.bank_laws.specs.Parts.{is_in_bank}
-use Rattle.core_exec.specs.Standing.{Standing}
+use Rattle.core_exec.specs.CoreView.{Standing}
 use Rattle.pei_types.specs.declared.calls.EndKind.{EndKind}
 use Rattle.shared_table.specs.Journal.{events}
 use Rattle.shared_table.specs.Parts.{core_number, mine, seen}
@@ -26,7 +26,7 @@ use Rattle.shared_table.specs.Place.{SeatView}
 use Rattle.thread_laws.specs.OwnEvents.{IssuesNext, KnowsItsPart, if_passes, look_there, placed_of}
 use Rattle.host_run.specs.declared.own_peis.OwnPei.{OwnPei}
 use Rattle.host_run.specs.declared.own_peis.OwnPeis.{OwnPeis}
-use Rattle.host_run.specs.Following.{HasSlot, KeepsUp}
+use Rattle.host_run.specs.ThreadInvariant.{HasSlot, KeepsUp}
 use Rattle.host_run.specs.Laws.{TurnLaws}
 use Rattle.host_run.specs.Own.{KeepsEvents, as_own, core_of, own_events, own_lanes, pei_in}
 use Rattle.host_run.proofs.RowCases.{LaneRow}

@@ -21,14 +21,14 @@ use Rattle.pei_types.specs.declared.inflight_looks.Phase.TheVariants as phase
 use Rattle.pei_types.specs.declared.machines.MachineSpec.{MachineSpec}
 use Rattle.pei_types.specs.Blocks.{block_of, same_core, same_lane, word_of}
 use Rattle.pei_types.specs.Calls.{Side, Programs, Peis, Messages, side_of, follows_phase}
-use Rattle.pei_types.specs.Coherence.{State, state_after, conflict, is_i, is_owned, is_phase, letter_of, look_in}
+use Rattle.pei_types.specs.MachineState.{State, state_after, conflict, is_i, is_owned, is_phase, letter_of, look_in}
 use Rattle.pei_types.specs.Core.{CoreNext, Calls, Busy, Ended, core_config, core_next}
 use Rattle.pei_types.specs.FlatMemory.{flat_block}
 use Rattle.pei_types.specs.Next.{CoreLook, Turn, Makes, Stalls, call_row_by, draining_or, fence_row, issue_row, race_or, want}
 use Rattle.pei_types.specs.Program.{Listing, Contents}
 use Rattle.pei_types.specs.Turns.{is_entering}
 use Rattle.bank_laws.specs.Rows.{IsRowIn, bank_look, pei_turn_in, program_turn_in, turn_in}
-use Rattle.core_exec.specs.Standing.{is_request, retires}
+use Rattle.core_exec.specs.CoreView.{is_request, retires}
 use Rattle.shared_table.specs.Claims.{is_fence}
 use Rattle.thread_laws.proofs.Rows.{IsMessage, IsNoPeis, KindIsOf, IsEventOf, TurnIsNoPeis, TurnIsOf, call_no_peis, either, pei_is_of, want_sends}
 

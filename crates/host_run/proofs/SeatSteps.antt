@@ -13,7 +13,7 @@ use Rattle.bank_laws.specs.Kept.{BankInOrder}
 use Rattle.bank_laws.specs.Logs.{IsFront, Rises}
 use Rattle.coherence_laws.specs.Holdings.{Holdings}
 use Rattle.thread_laws.specs.BankLogs.{IsBankLog}
-use Rattle.core_exec.specs.Standing.{Standing}
+use Rattle.core_exec.specs.CoreView.{Standing}
 use Rattle.shared_table.specs.declared.claims.Active.{Active}
 use Rattle.shared_table.specs.declared.claims.Knowledge.{Knowledge}
 use Rattle.shared_table.specs.Actives.{active_in}
@@ -26,7 +26,7 @@ use Rattle.shared_table.specs.Place.{SeatView}
 use Rattle.shared_table.specs.Rule.{IsClear}
 use Rattle.host_run.specs.declared.cores.CoreRun.{CoreRun}
 use Rattle.host_run.specs.declared.own_peis.OwnPeis.{OwnPeis}
-use Rattle.host_run.specs.Following.{HasFollowed, HasSlot, IsAtRest, IsFull, IsInTurn, KeepsUp}
+use Rattle.host_run.specs.ThreadInvariant.{HasFollowed, HasSlot, IsAtRest, IsFull, IsInTurn, KeepsUp}
 use Rattle.host_run.specs.Laws.{TurnLaws}
 use Rattle.host_run.proofs.Seats.{SeesMore, keeps_on}
 

@@ -15,7 +15,7 @@ use Rattle.pei_types.specs.Program.{Listing, Contents}
 use Rattle.pei_types.specs.Recency.{list_at}
 use Rattle.bank_laws.specs.Banks.{EachPlaced, StandsRightly}
 use Rattle.bank_laws.specs.Logs.{HandsBack, IsFront, Rises}
-use Rattle.core_exec.specs.Standing.{Standing}
+use Rattle.core_exec.specs.CoreView.{Standing}
 use Rattle.shared_table.specs.declared.claims.Active.{Active}
 use Rattle.shared_table.specs.declared.claims.Claim.{Claim}
 use Rattle.shared_table.specs.declared.claims.Made.{Made}
@@ -25,7 +25,7 @@ use Rattle.shared_table.specs.Place.{SeatView}
 use Rattle.thread_laws.specs.OwnEvents.{placed_of}
 use Rattle.host_run.specs.declared.own_peis.OwnPei.{OwnPei}
 use Rattle.host_run.specs.declared.own_peis.OwnPeis.{OwnPeis}
-use Rattle.host_run.specs.Following.{FencesAtHome, HasFollowed, HasTakenIn, KeepsUp, own_end}
+use Rattle.host_run.specs.ThreadInvariant.{FencesAtHome, HasFollowed, HasTakenIn, KeepsUp, own_end}
 use Rattle.host_run.specs.Laws.{TurnLaws}
 use Rattle.host_run.specs.Own.{KeepsActives, KeepsClaims, KeepsEvents, KeepsPeis, core_of, own_events, own_log, seen_logs}
 

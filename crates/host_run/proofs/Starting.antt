@@ -9,7 +9,7 @@ use Rattle.pei_types.specs.declared.events.Event.{Event}
 use Rattle.pei_types.specs.declared.identifiers.CoreId.{CoreId}
 use Rattle.pei_types.specs.declared.machines.MachineSpec.{MachineSpec}
 use Rattle.pei_types.specs.declared.stamps.Stamped.{Stamped}
-use Rattle.pei_types.specs.Coherence.{state_after}
+use Rattle.pei_types.specs.MachineState.{state_after}
 use Rattle.pei_types.specs.Core.{at_stop, core_after, core_at_start, core_config}
 use Rattle.pei_types.specs.Ends.{end_in}
 use Rattle.pei_types.specs.Legal.{EachEvent}
@@ -29,9 +29,9 @@ use Rattle.shared_table.specs.Place.{SeatView}
 use Rattle.host_run.specs.declared.cores.CoreRun.{CoreRun}
 use Rattle.host_run.specs.declared.own_peis.OwnPei.{OwnPei}
 use Rattle.host_run.specs.declared.own_peis.OwnPeis.{OwnPeis}
-use Rattle.host_run.specs.Following.{FencesAtHome, HasFollowed, IsInTurn}
+use Rattle.host_run.specs.ThreadInvariant.{FencesAtHome, HasFollowed, IsInTurn}
 use Rattle.host_run.specs.Own.{KeepsActives, KeepsClaims, KeepsEvents, KeepsLane, KeepsPeis, core_of, is_spent, no_peis, own_events, own_log, pei_in, seen_logs}
-use Rattle.host_run.specs.Starting.{IsNewSeat}
+use Rattle.host_run.specs.NewSeat.{IsNewSeat}
 
 no_event : (P : List Event → Event → Type 0) → EachEvent P []
 no_event P [] rest e h = absurd (cc h)

@@ -16,7 +16,7 @@ use Rattle.bank_laws.specs.Kept.{BankInOrder, FitsInBank}
 use Rattle.bank_laws.specs.Logs.{Rises}
 use Rattle.bank_laws.specs.Rows.{IsRowOfBank}
 use Rattle.coherence_laws.specs.Holdings.{Holdings}
-use Rattle.core_exec.specs.Standing.{Standing}
+use Rattle.core_exec.specs.CoreView.{Standing}
 use Rattle.fabric.specs.Banks.{BankHistory, events_of}
 use Rattle.shared_table.specs.declared.claims.Active.{Active}
 use Rattle.shared_table.specs.Actives.{active_in}
@@ -30,7 +30,7 @@ use Rattle.shared_table.specs.Timed.{IsAbove}
 use Rattle.thread_laws.specs.BankLogs.{IsBankLog}
 use Rattle.host_run.specs.declared.cores.CoreRun.{CoreRun}
 use Rattle.host_run.specs.declared.own_peis.OwnPeis.{OwnPeis}
-use Rattle.host_run.specs.Following.{HasSlot, IsAtRest, IsFull, IsInTurn, KeepsUp}
+use Rattle.host_run.specs.ThreadInvariant.{HasSlot, IsAtRest, IsFull, IsInTurn, KeepsUp}
 use Rattle.host_run.specs.Laws.{TurnLaws}
 use Rattle.host_run.specs.Own.{KeepsPeis, core_of, own_events}
 use Rattle.host_run.proofs.Seats.{keeps_on}

@@ -11,13 +11,13 @@ use Rattle.pei_types.specs.declared.identifiers.Actor.{Actor}
 use Rattle.pei_types.specs.declared.inflight_looks.PeiLook.{PeiLook}
 use Rattle.pei_types.specs.declared.machines.MachineSpec.{MachineSpec}
 use Rattle.pei_types.specs.declared.stamps.Stamped.{Stamped}
-use Rattle.pei_types.specs.Coherence.{state_after, pei_id}
+use Rattle.pei_types.specs.MachineState.{state_after, pei_id}
 use Rattle.pei_types.specs.History.{Pei, pei_issued_by}
 use Rattle.pei_types.specs.Operation.{is_writer}
 use Rattle.pei_types.proofs.Tests.{same_self}
 use Rattle.fabric.specs.Banks.{BankHistory, bank_state, events_of, is_issued_below, issues, waits_of}
 use Rattle.history_laws.specs.Members.{In}
-use Rattle.history_laws.specs.Tracking.{as_issued}
+use Rattle.history_laws.specs.TrackedPeis.{as_issued}
 use Rattle.history_laws.proofs.Lists.{find_None}
 use Rattle.shared_table.specs.Claims.{earlier_left}
 use Rattle.thread_laws.specs.BankLogs.{IsBankLog}

@@ -1,6 +1,6 @@
 pub mod Own
-pub mod Following
-pub mod Turning
+pub mod ThreadInvariant
+pub mod Grant
 pub mod Laws
 pub mod Runs
-pub mod Starting
+pub mod NewSeat

@@ -19,14 +19,14 @@ use Rattle.pei_types.specs.declared.machines.MachineSpec.{MachineSpec}
 use Rattle.pei_types.specs.declared.stamps.Stamped.{Stamped}
 use Rattle.pei_types.specs.Blocks.{fold_of, same_core}
 use Rattle.pei_types.specs.Calls.{Side, Peis, side_of}
-use Rattle.pei_types.specs.Coherence.{State, state_after, look_in, is_phase}
+use Rattle.pei_types.specs.MachineState.{State, state_after, look_in, is_phase}
 use Rattle.pei_types.specs.Legal.{EachEvent}
 use Rattle.pei_types.specs.Limits.{log_two}
 use Rattle.pei_types.specs.Operation.{mode_of}
 use Rattle.pei_types.specs.Turns.{is_entering}
 use Rattle.bank_laws.specs.Banks.{bank_of}
 use Rattle.history_laws.specs.Members.{In}
-use Rattle.history_laws.specs.Tracking.{fence_is_on}
+use Rattle.history_laws.specs.TrackedPeis.{fence_is_on}
 use Rattle.thread_laws.specs.OwnEvents.{IssuesNext}
 use Rattle.shared_table.specs.declared.claims.Claim.{Claim}
 use Rattle.shared_table.specs.declared.claims.Claim.TheVariants.{Free, Announced, Held}

@@ -4,11 +4,11 @@ use Rattle.std.proofs.Common.{lit≤}
 use Rattle.pei_types.specs.declared.calls.EndKind.{EndKind}
 use Rattle.pei_types.specs.declared.events.Event.{Event}
 use Rattle.pei_types.specs.declared.machines.MachineSpec.{MachineSpec}
-use Rattle.pei_types.specs.Coherence.{cores_of}
+use Rattle.pei_types.specs.MachineState.{cores_of}
 use Rattle.pei_types.specs.Core.{events_of}
 use Rattle.pei_types.specs.Ends.{IsComplete, ends_of}
 use Rattle.pei_types.specs.Legal.{Legal}
-use Rattle.pei_types.specs.Machines.{built_in}
+use Rattle.pei_types.specs.BuiltIns.{built_in}
 use Rattle.pei_types.specs.Program.{Listing, Contents}
 use Rattle.shared_table.specs.Receipts.{Account}
 

@@ -1,16 +1,16 @@
 //! The loop of one core's thread.
 
 ghost use Rattle.std.specs.Prelude.{◌≡◌, ℕ, ◌≤◌, IsTrue, IsFalse};
-ghost use Rattle.host_run.specs.Following.{IsDone, IsFull, IsInTurn, IsLetGo};
+ghost use Rattle.host_run.specs.ThreadInvariant.{IsDone, IsFull, IsInTurn, IsLetGo};
 ghost use Rattle.host_run.specs.Own.{core_of};
 ghost use Rattle.shared_table.specs.Own.{Has};
 ghost use Rattle.shared_table.specs.Parts.{claims, core_number};
 ghost use Rattle.shared_table.specs.declared.claims.Claim.TheVariants.{Free};
 
 use crate::cores::CoreRun;
-use crate::gates::Gate;
 use crate::slots::{Run, RunBank};
 use crate::visits::{Place, laws};
+use pei_io::Gate;
 use pei_types::Lane;
 use shared_table::{Claim, CoreSeat};
 use std::sync::Wait;

@@ -7,10 +7,10 @@ ghost use Rattle.pei_types.specs.declared.identifiers.CoreId.{CoreId};
 ghost use Rattle.pei_types.specs.declared.machines.MachineSpec.{MachineSpec};
 ghost use Rattle.pei_types.specs.Blocks.{same_core};
 ghost use Rattle.pei_types.specs.Core.{Calls, after_answer, at_stop, core_at_start, core_config, next_of};
-ghost use Rattle.core_exec.specs.Standing.{is_request, retires};
+ghost use Rattle.core_exec.specs.CoreView.{is_request, retires};
 ghost use Rattle.shared_table.specs.Claims.{fence_at};
 ghost use Rattle.thread_laws.specs.OwnEvents.{IssuesNext};
-ghost use Rattle.host_run.specs.Following.{end_after};
+ghost use Rattle.host_run.specs.ThreadInvariant.{end_after};
 ghost use Rattle.host_run.specs.Own.{IsOfItsLane, IsOnLane, KeepsEvents, cleared_after, lanes_after, no_peis, spent_after};
 
 use crate::own_peis::OwnPeis;

@@ -11,12 +11,10 @@
 
 mod chores;
 mod cores;
-mod gates;
 mod own_peis;
 mod runs;
 mod slots;
 mod turns;
 mod visits;
 
-pub use gates::{FreeGate, Gate};
 pub use runs::{RunParts, run_threads};

@@ -5,7 +5,7 @@ ghost use Rattle.pei_types.specs.declared.events.Event.{Event};
 ghost use Rattle.pei_types.specs.declared.identifiers.CoreId.{CoreId};
 ghost use Rattle.pei_types.specs.declared.machines.MachineSpec.{MachineSpec};
 ghost use Rattle.pei_types.specs.Blocks.{same_core};
-ghost use Rattle.pei_types.specs.Coherence.{state_after};
+ghost use Rattle.pei_types.specs.MachineState.{state_after};
 ghost use Rattle.bank_laws.specs.Laws.{BanksMerge, CoresGoOn};
 ghost use Rattle.bank_laws.specs.Rows.{bank_look};
 ghost use Rattle.fabric.specs.Looks.{is_clear, seen};

@@ -6,15 +6,15 @@ ghost use Rattle.fabric.specs.Banks.{banks_at_start};
 ghost use Rattle.history_laws.specs.Laws.{JournalsAreSound};
 ghost use Rattle.bank_laws.specs.Laws.{BanksKeepApart, LogsMakeLegal};
 ghost use Rattle.shared_table.specs.Parts.{core_number};
-ghost use Rattle.host_run.specs.Following.{IsDone};
+ghost use Rattle.host_run.specs.ThreadInvariant.{IsDone};
 ghost use Rattle.host_run.specs.Runs.{IsRunOf};
-ghost use Rattle.host_run.specs.Starting.{IsNewSeat};
+ghost use Rattle.host_run.specs.NewSeat.{IsNewSeat};
 
 use crate::cores::CoreRun;
-use crate::gates::Gate;
 use crate::slots::{Run, RunBank};
 use crate::visits::Place;
 use fabric::{Bank, Fabric};
+use pei_io::Gate;
 use pei_types::{Banks, CoreId, EndKind, Image, MachineSpec, OutOfMemory, Program};
 use shared_table::{CoreSeat, Receipt, Seats, SharedTable};
 use std::alloc::Global;

@@ -7,15 +7,15 @@ ghost use Rattle.shared_table.specs.Journal.{events};
 ghost use Rattle.shared_table.specs.Claims.{earlier_left};
 ghost use Rattle.shared_table.specs.Parts.{claims, filled, misses, seen};
 ghost use Rattle.shared_table.specs.Timed.{IsAbove};
-ghost use Rattle.host_run.specs.Following.{FencesAtHome, HasSlot, IsAtRest, IsInTurn, KeepsUp};
+ghost use Rattle.host_run.specs.ThreadInvariant.{FencesAtHome, HasSlot, IsAtRest, IsInTurn, KeepsUp};
 ghost use Rattle.host_run.specs.Laws.{TurnLaws};
 ghost use Rattle.host_run.specs.Own.{core_of, own_events};
-ghost use Rattle.host_run.specs.Turning.{IsGranted};
+ghost use Rattle.host_run.specs.Grant.{IsGranted};
 
 use crate::cores::CoreRun;
-use crate::gates::Gate;
 use crate::slots::{Run, RunBank};
 use bank_laws::laws::{banks_keep_apart, banks_merge, cores_go_on, logs_make_legal};
+use pei_io::Gate;
 use pei_types::evidence::{calls_fit, core_stops_once, folds_grow};
 use pei_types::{CoreId, Event, MachineSpec, Program};
 use shared_table::{CoreSeat, Held, SharedTable, actives_are_entered, seats_follow};

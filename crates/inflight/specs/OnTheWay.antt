@@ -15,7 +15,7 @@ use Rattle.pei_types.specs.declared.operations.Place.TheVariants as place
 use Rattle.pei_types.specs.declared.inflight_looks.Phase.{Phase}
 use Rattle.pei_types.specs.declared.inflight_looks.Phase.TheVariants as phase
 use Rattle.pei_types.specs.declared.machines.MachineSpec.{MachineSpec}
-use Rattle.pei_types.specs.Coherence.{State, start_state, pei_state, look_in, in_phase, with_queued, queue_of, after_leaving, unfinished_writers}
+use Rattle.pei_types.specs.MachineState.{State, start_state, pei_state, look_in, in_phase, with_queued, queue_of, after_leaving, unfinished_writers}
 use Rattle.pei_types.specs.Blocks.{same_block, same_pei, vault_of}
 use Rattle.pei_types.specs.Recency.{change_at}
 use Rattle.inflight.specs.Entries.{behind}

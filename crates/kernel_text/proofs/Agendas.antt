@@ -4,7 +4,7 @@ use Rattle.std.specs.List.{list_all}
 use Rattle.std.proofs.lemmas.List.{reverse-append}
 use Rattle.std.proofs.lemmas.List.Folds.{list_all-append}
 use Rattle.kernel_text.specs.declared.senses.Wanted.{Wanted}
-use Rattle.kernel_text.specs.Reading.{Reading, before, may_end, is_optional}
+use Rattle.kernel_text.specs.Readings.{Reading, before, may_end, is_optional}
 
 pub ends_reversed : (xs : List Wanted) → may_end (reverse xs) ≡ may_end xs
 ends_reversed [] = refl

@@ -10,7 +10,7 @@ use Rattle.kernel_text.specs.declared.tree.Operator.{Operator}
 use Rattle.kernel_text.specs.declared.tree.Operator.TheVariants as op
 use Rattle.kernel_text.specs.Tokens.{Token, word, number, mark, stray, is_mark, is_name, is_number, text_of, value_of}
 use Rattle.kernel_text.specs.Grammar.{operator}
-use Rattle.kernel_text.specs.Reading.{Reading, before, of_term, is_operator, is_optional, opens_bracket, deepest, value, ending}
+use Rattle.kernel_text.specs.Readings.{Reading, before, of_term, is_operator, is_optional, opens_bracket, deepest, value, ending}
 use Rattle.kernel_text.specs.Built.{continues, goes_on, first, begins_with_word, wants_name, wants_number}
 
 -- ---- tokens

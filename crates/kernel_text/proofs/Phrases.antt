@@ -8,7 +8,7 @@ use Rattle.kernel_text.specs.declared.senses.Wanted.TheVariants as wanted
 use Rattle.kernel_text.specs.declared.stop.Stop.{Stop}
 use Rattle.kernel_text.specs.declared.stop.Stop.TheVariants as stop
 use Rattle.kernel_text.specs.Tokens.{Token, word, number, mark, stray, is_word, is_mark, is_name}
-use Rattle.kernel_text.specs.Reading.{is_optional, opens_bracket, value, index, comma, ending, operands, sized}
+use Rattle.kernel_text.specs.Readings.{is_optional, opens_bracket, value, index, comma, ending, operands, sized}
 use Rattle.kernel_text.specs.Beginnings.{begins_statement, begins_declaration}
 use Rattle.kernel_text.specs.Built.{begins_with_mark, continues, first, Reads, Sticks}
 use Rattle.kernel_text.proofs.Continuing.{mark_is}

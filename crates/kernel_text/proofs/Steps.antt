@@ -12,7 +12,7 @@ use Rattle.kernel_text.specs.declared.tokens.Lexeme.{Lexeme}
 use Rattle.kernel_text.specs.Tokens.{Token, Placed}
 use Rattle.kernel_text.specs.Characters.{fault_at}
 use Rattle.kernel_text.specs.Lexemes.{placed_of}
-use Rattle.kernel_text.specs.Reading.{read}
+use Rattle.kernel_text.specs.Readings.{read}
 use Rattle.kernel_text.specs.Senses.{taken, reading_of}
 use Rattle.kernel_text.specs.Known.{Known, known_after}
 use Rattle.kernel_text.specs.Faults.{behind_token, kind_of_trials, trials, first_token_fault, next_of}

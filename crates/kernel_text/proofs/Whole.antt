@@ -8,7 +8,7 @@ use Rattle.kernel_text.specs.declared.tokens.Lexeme.{Lexeme}
 use Rattle.kernel_text.specs.Tokens.{Token, Placed, tokens_of, end_of}
 use Rattle.kernel_text.specs.Characters.{fault_at, first_character_fault}
 use Rattle.kernel_text.specs.Lexemes.{placed_of}
-use Rattle.kernel_text.specs.Reading.{Reading, read, may_end, a_kernel}
+use Rattle.kernel_text.specs.Readings.{Reading, read, may_end, a_kernel}
 use Rattle.kernel_text.specs.Known.{Known, at_start, known_after}
 use Rattle.kernel_text.specs.Faults.{first_fault, first_token_fault, fault_of_token, behind_token, next_of}
 use Rattle.kernel_text.specs.Trees.{Kernel}

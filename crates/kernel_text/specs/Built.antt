@@ -9,7 +9,7 @@ use Rattle.kernel_text.specs.Trees.{done}
 use Rattle.kernel_text.specs.Grammar.{statements, are_statements}
 use Rattle.kernel_text.specs.Tokens.{Token, is_mark, is_word}
 use Rattle.kernel_text.specs.Lexemes.{token_of}
-use Rattle.kernel_text.specs.Reading.{Reading, read, may_end}
+use Rattle.kernel_text.specs.Readings.{Reading, read, may_end}
 
 abbrev pub tokens_in : List Lexeme → List Token
 tokens_in items = map (λ x. token_of x.token) items

@@ -10,7 +10,7 @@ use Rattle.kernel_text.specs.declared.senses.Role.{Role}
 use Rattle.kernel_text.specs.declared.senses.Role.TheVariants as role
 use Rattle.kernel_text.specs.Tokens.{Token, Placed, text_of, value_of, tokens_of, end_of}
 use Rattle.kernel_text.specs.Characters.{fault_at, first_character_fault}
-use Rattle.kernel_text.specs.Reading.{Reading, read, may_end}
+use Rattle.kernel_text.specs.Readings.{Reading, read, may_end}
 use Rattle.kernel_text.specs.Known.{Known, at_start, kind_of, is_in, opens, count_of, sets, known_after}
 
 -- ---- the kinds: whether each applies to a token with this role

@@ -7,7 +7,7 @@ use Rattle.kernel_text.specs.declared.senses.Role.{Role}
 use Rattle.kernel_text.specs.declared.senses.Role.TheVariants as role
 use Rattle.kernel_text.specs.declared.senses.Wanted.{Wanted}
 use Rattle.kernel_text.specs.Tokens.{Token, is_mark, text_of, value_of}
-use Rattle.kernel_text.specs.Reading.{Reading, a_kernel}
+use Rattle.kernel_text.specs.Readings.{Reading, a_kernel}
 
 -- What is wanted; the names that are declared, and whether each is an array; the size of the last of them, how many
 -- numbers it has, and all sizes together; the variables that were assigned or counted, and those of the loops around;

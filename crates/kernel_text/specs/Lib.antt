@@ -4,11 +4,11 @@ pub mod Views
 pub mod Grammar
 pub mod Characters
 pub mod Lexemes
-pub mod Reading
+pub mod Readings
 pub mod Senses
 pub mod Known
 pub mod Faults
-pub mod Fitting
+pub mod Room
 pub mod Built
 pub mod Beginnings
 pub mod Examples

@@ -5,7 +5,7 @@ use Rattle.kernel_text.specs.declared.senses.Wanted.{Wanted}
 use Rattle.kernel_text.specs.declared.tokens.Token as declared
 use Rattle.kernel_text.specs.Tokens.{Token}
 use Rattle.kernel_text.specs.Lexemes.{token_of}
-use Rattle.kernel_text.specs.Reading.{Reading}
+use Rattle.kernel_text.specs.Readings.{Reading}
 
 abbrev pub reading_of : Sense → List Wanted → Reading
 reading_of s behind = record { role = s.role; begins = s.begins; wanted = behind }

@@ -6,7 +6,7 @@ ghost use Rattle.kernel_text.specs.declared.senses.Wanted.TheVariants as wanted;
 ghost use Rattle.kernel_text.specs.declared.stop.Stop.TheVariants as stop;
 ghost use Rattle.kernel_text.specs.Tokens.{word, mark};
 ghost use Rattle.kernel_text.specs.Grammar.{is_free, pair};
-ghost use Rattle.kernel_text.specs.Reading.{index, value, comma, operands, ending};
+ghost use Rattle.kernel_text.specs.Readings.{index, value, comma, operands, ending};
 ghost use Rattle.kernel_text.specs.Built.{tokens_in, spelled_statement, is_statement, Reads, Sticks};
 
 use crate::cursor::{first_of, mark};

@@ -2,7 +2,7 @@
 
 ghost use Rattle.std.specs.Prelude.{◌≡◌, ◌++◌, ◌∷◌, [], IfNone, OnOk};
 ghost use Rattle.std.specs.Option.{option_to_list};
-ghost use Rattle.kernel_text.specs.Reading.{may_end};
+ghost use Rattle.kernel_text.specs.Readings.{may_end};
 
 use crate::senses::Wanted;
 use pei_types::OutOfMemory;

@@ -8,7 +8,7 @@ ghost use Rattle.kernel_text.specs.declared.senses.Wanted.TheVariants as wanted;
 ghost use Rattle.kernel_text.specs.declared.stop.Stop.TheVariants as stop;
 ghost use Rattle.kernel_text.specs.Tokens.{word};
 ghost use Rattle.kernel_text.specs.Grammar.{declaration, has_numbers, is_declaration, is_free, numbers, sized};
-ghost use Rattle.kernel_text.specs.Reading.{sized as sized_wanted, ending};
+ghost use Rattle.kernel_text.specs.Readings.{sized as sized_wanted, ending};
 ghost use Rattle.kernel_text.specs.Views.{declaration_of};
 ghost use Rattle.kernel_text.specs.Beginnings.{begins_declaration};
 ghost use Rattle.kernel_text.specs.Built.{tokens_in, first, continues, Reads, Sticks};

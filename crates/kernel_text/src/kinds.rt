@@ -5,7 +5,7 @@ ghost use Rattle.std.specs.Str.{bytes_eq};
 ghost use Rattle.kernel_text.specs.Tokens.{is_word, is_mark, is_name, is_number, is_keyword, text_of, value_of};
 ghost use Rattle.kernel_text.specs.Grammar.{operator};
 ghost use Rattle.kernel_text.specs.Lexemes.{token_of};
-ghost use Rattle.kernel_text.specs.Reading.{is_operator, opens_bracket};
+ghost use Rattle.kernel_text.specs.Readings.{is_operator, opens_bracket};
 ghost use Rattle.kernel_text.specs.Known.{opens, closes};
 ghost use Rattle.kernel_text.specs.Senses.{next_token};
 

@@ -5,7 +5,7 @@ ghost use Rattle.kernel_text.specs.declared.faults.KernelKind.TheVariants as kin
 ghost use Rattle.kernel_text.specs.declared.stop.Stop.TheVariants as stop;
 ghost use Rattle.kernel_text.specs.Faults.{first_fault};
 ghost use Rattle.kernel_text.specs.Grammar.{kernel, is_kernel, Spells};
-ghost use Rattle.kernel_text.specs.Reading.{a_kernel};
+ghost use Rattle.kernel_text.specs.Readings.{a_kernel};
 ghost use Rattle.kernel_text.specs.Views.{kernel_of};
 ghost use Rattle.kernel_text.specs.Built.{tokens_in, continues};
 

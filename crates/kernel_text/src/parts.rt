@@ -7,7 +7,7 @@ ghost use Rattle.kernel_text.specs.declared.senses.Wanted.TheVariants as wanted;
 ghost use Rattle.kernel_text.specs.declared.stop.Stop.TheVariants as stop;
 ghost use Rattle.kernel_text.specs.Tokens.{word, number, mark};
 ghost use Rattle.kernel_text.specs.Grammar.{at, comma, expression, in_brackets, is_expression, is_free};
-ghost use Rattle.kernel_text.specs.Reading.{index, value};
+ghost use Rattle.kernel_text.specs.Readings.{index, value};
 ghost use Rattle.kernel_text.specs.Views.{expression_of};
 ghost use Rattle.kernel_text.specs.Built.{tokens_in, wants_name, wants_number, Reads, Sticks};
 

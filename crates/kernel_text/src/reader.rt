@@ -6,10 +6,10 @@ ghost use Rattle.kernel_text.specs.declared.faults.KernelFault.{KernelFault};
 ghost use Rattle.kernel_text.specs.declared.senses.Wanted.{Wanted};
 ghost use Rattle.kernel_text.specs.Tokens.{text_of, value_of};
 ghost use Rattle.kernel_text.specs.Lexemes.{token_of, placed_of};
-ghost use Rattle.kernel_text.specs.Reading.{read, may_end};
+ghost use Rattle.kernel_text.specs.Readings.{read, may_end};
 ghost use Rattle.kernel_text.specs.Senses.{taken, reading_of, next_token};
 ghost use Rattle.kernel_text.specs.Known.{Known, at_start, known_after, declared_after, size_after, values_after, words_after, variables_after, loops_after, kind_of, count_of, opens, closes};
-ghost use Rattle.kernel_text.specs.Fitting.{Fits};
+ghost use Rattle.kernel_text.specs.Room.{Fits};
 ghost use Rattle.kernel_text.specs.Faults.{kind_of_trials, trials, behind_token, first_token_fault, next_of, is_one_value_too_many, has_too_many_words, is_too_nested, is_loop_variable, is_one_variable_too_many, is_too_long, is_double_name};
 
 use crate::agenda::Agenda;

@@ -2,7 +2,7 @@
 
 ghost use Rattle.std.specs.Prelude.{◌≡◌, List, true};
 ghost use Rattle.kernel_text.specs.declared.senses.Wanted.{Wanted};
-ghost use Rattle.kernel_text.specs.Reading.{is_optional, only, before};
+ghost use Rattle.kernel_text.specs.Readings.{is_optional, only, before};
 ghost use Rattle.kernel_text.specs.Senses.{taken};
 
 /// What a token does at its place.

@@ -4,7 +4,7 @@ ghost use Rattle.std.specs.Prelude.{◌≡◌, true, false, IfOk, IfNone, Option
 ghost use Rattle.kernel_text.specs.Tokens.{is_name};
 ghost use Rattle.kernel_text.specs.Tokens.{Token as Spelled};
 ghost use Rattle.kernel_text.specs.Lexemes.{token_of};
-ghost use Rattle.kernel_text.specs.Reading.{is_optional, before, of_wanted, of_declarations, of_statements, of_term, behind_variable, one_word, two_words, more_values, more_terms, read};
+ghost use Rattle.kernel_text.specs.Readings.{is_optional, before, of_wanted, of_declarations, of_statements, of_term, behind_variable, one_word, two_words, more_values, more_terms, read};
 ghost use Rattle.kernel_text.specs.Senses.{taken, next_token};
 
 use crate::agenda::Agenda;

@@ -2,7 +2,7 @@
 use Rattle.std.proofs.Common.{◌≡◌, ◌≢◌, ℕ, ◌%◌, ◌<◌, false, List, length, Some, None, refl, sym, ◌∙◌, inl, inr, arith}
 use Rattle.std.specs.Prelude.{slice_set}
 use Rattle.std.proofs.lemmas.List.{get_or-set_same, get_or-set_other, length-set}
-use Rattle.pei_types.specs.Coherence.{is_absent}
+use Rattle.pei_types.specs.MachineState.{is_absent}
 use Rattle.set_lists.specs.Placed.{Placed, IsListed, IsPlaced, key_at, inserted, removed}
 use Rattle.set_lists.specs.Laws.{SlotsFollow}
 use Rattle.pei_types.specs.declared.lines.HeldLine.{HeldLine}

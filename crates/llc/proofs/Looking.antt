@@ -4,7 +4,7 @@ use Rattle.std.specs.Prelude.{slice_index_or, IfSome, is_some}
 use Rattle.std.specs.List.{list_any}
 use Rattle.std.proofs.lemmas.List.{get_or_default}
 use Rattle.pei_types.specs.declared.identifiers.BlockNo.{BlockNo}
-use Rattle.pei_types.specs.Coherence.{is_absent}
+use Rattle.pei_types.specs.MachineState.{is_absent}
 use Rattle.pei_types.specs.Recency.{list_at, victim}
 use Rattle.set_lists.specs.Placed.{Placed, IsAt, IsListed, key_at, is_key, has_key}
 use Rattle.set_lists.specs.Laws.{held, Tells, SetsFollow}

@@ -5,7 +5,7 @@ use Rattle.pei_types.specs.declared.identifiers.BlockNo.{BlockNo}
 use Rattle.pei_types.specs.declared.machines.MachineSpec.{MachineSpec}
 use Rattle.pei_types.specs.declared.machines.Policy3.TheVariants as policy
 use Rattle.pei_types.specs.Blocks as blocks
-use Rattle.pei_types.specs.Coherence.{State, start_state, with_monitor_set}
+use Rattle.pei_types.specs.MachineState.{State, start_state, with_monitor_set}
 use Rattle.pei_types.specs.Monitor.{MonitorEntry, has_tag, place_by, after_access, after_placement, placement}
 use Rattle.pei_types.specs.Recency.{change_at, list_at}
 use Rattle.locality_monitor.specs.Table.{Table, empty_table, set_of, tag_of, with_access, with_placement, place_of}

@@ -9,7 +9,7 @@ use Rattle.pei_types.specs.declared.operations.Operands.{Operands}
 use Rattle.pei_types.specs.declared.inflight_looks.PeiLook.{PeiLook}
 use Rattle.pei_types.specs.declared.inflight_looks.Phase.TheVariants as phase
 use Rattle.pei_types.specs.declared.machines.MachineSpec.{MachineSpec}
-use Rattle.pei_types.specs.Coherence.{State, letter_of, mark_of, is_owned, is_phase, with_l1_front}
+use Rattle.pei_types.specs.MachineState.{State, letter_of, mark_of, is_owned, is_phase, with_l1_front}
 use Rattle.pei_types.specs.Operation.{is_writer, block_after}
 use Rattle.coherence_laws.specs.Data.{Data, at_block, with_copy, BuffersHold}
 use Rattle.coherence_laws.specs.Holdings.{Holdings, data_of, with_copy_front}

@@ -10,7 +10,7 @@ use Rattle.pei_types.specs.declared.events.EventKind.{EventKind}
 use Rattle.pei_types.specs.declared.events.EventKind.TheVariants as event
 use Rattle.pei_types.specs.declared.machines.MachineSpec.{MachineSpec}
 use Rattle.pei_types.specs.Calls.{AnswersCall, FollowsPei, is_actor_of}
-use Rattle.pei_types.specs.Coherence.{State, state_after, look_in, first_unentered, entry_is_taken}
+use Rattle.pei_types.specs.MachineState.{State, state_after, look_in, first_unentered, entry_is_taken}
 use Rattle.pei_types.specs.Core.{CoreNext, Calls}
 use Rattle.pei_types.specs.Exclusion.{EntersAlone}
 use Rattle.pei_types.specs.Guard.{guard, pei_guard, is_pei}
@@ -22,15 +22,15 @@ use Rattle.pei_types.specs.Turns.{IsNextOf, is_entering, lane_turn}
 use Rattle.pei_types.proofs.Identities.{same_core_is, same_lane_is}
 use Rattle.pei_types.proofs.Pushes.{state_after-push}
 use Rattle.pei_types.proofs.Tests.{same_self}
-use Rattle.history_laws.specs.Entering.{LanesApart}
+use Rattle.history_laws.specs.EntryOrder.{LanesApart}
 use Rattle.history_laws.specs.Fits.{AsksForFence, EntersFree}
 use Rattle.history_laws.specs.Laws.{AgreementTells, ExclusionTells, NextEventsMeet, RestIsState}
 use Rattle.history_laws.specs.Members.{In}
 use Rattle.history_laws.specs.Sound.{MeetsState}
-use Rattle.history_laws.specs.Tracking.{as_issued}
+use Rattle.history_laws.specs.TrackedPeis.{as_issued}
 use Rattle.coherence_laws.specs.Invariants.{Invariants}
 use Rattle.coherence_laws.specs.Laws.{IsAllowed, KeepsInvariants, LanesHoldPeis, RowsAreAllowed, TurnsAreAllowed}
-use Rattle.machine_laws.specs.Standing.{MachineInOrder}
+use Rattle.machine_laws.specs.InOrder.{MachineInOrder}
 use Rattle.std.proofs.lemmas.Option.{same_Some}
 
 -- a PEI that enters finds its entry free, as a row's condition asks it

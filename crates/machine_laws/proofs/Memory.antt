@@ -11,7 +11,7 @@ use Rattle.pei_types.specs.declared.events.EventKind.{EventKind}
 use Rattle.pei_types.specs.declared.events.EventKind.TheVariants as event
 use Rattle.pei_types.specs.declared.machines.MachineSpec.{MachineSpec}
 use Rattle.pei_types.specs.Calls.{Messages, is_actor_of, side_of}
-use Rattle.pei_types.specs.Coherence.{State, start_state, next_state, state_after}
+use Rattle.pei_types.specs.MachineState.{State, start_state, next_state, state_after}
 use Rattle.pei_types.specs.Core.{CoreNext}
 use Rattle.pei_types.specs.FlatMemory.{flat_block}
 use Rattle.pei_types.specs.Guard.{guard}
@@ -21,14 +21,14 @@ use Rattle.pei_types.specs.Program.{Contents, block_at}
 use Rattle.pei_types.specs.Turns.{IsNextOf}
 use Rattle.pei_types.proofs.Histories.{each_prefix}
 use Rattle.pei_types.proofs.Pushes.{state_after-push}
-use Rattle.history_laws.specs.Tracking.{IsTracked}
+use Rattle.history_laws.specs.TrackedPeis.{IsTracked}
 use Rattle.coherence_laws.specs.Data.{next_data, next_flat, start_data, SameWhereThere}
 use Rattle.coherence_laws.specs.Holdings.{Holdings, Follows, data_of, start_holdings, next_holdings}
 use Rattle.coherence_laws.specs.Invariants.{Invariants, IsAsIssued}
 use Rattle.coherence_laws.specs.Laws.{IsNoRace, PeisAreAsIssued, KeepsInvariants, KeepsContents, TurnsAreAllowed, FollowsContents, FlatMemoryGoesOn, HoldsFlatMemory}
 use Rattle.coherence_laws.specs.Sets.{Each}
 use Rattle.machine_laws.specs.Memory.{HoldsMemory, SameHoldings, seen_block, holdings_after}
-use Rattle.machine_laws.specs.Standing.{MachineInOrder}
+use Rattle.machine_laws.specs.InOrder.{MachineInOrder}
 
 -- lines follow the state and their own contents
 pub follow_themselves : (m : MachineSpec) (s : State) (k : Holdings) (memory : BlockNo → Block) → HoldsMemory m s k memory → Follows m s k (data_of m k)

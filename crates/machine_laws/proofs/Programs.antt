@@ -11,7 +11,7 @@ use Rattle.history_laws.specs.Laws.{NextEventsMeet, PoliciesChooseActors, RunsGo
 use Rattle.history_laws.specs.Runs.{WholeRun}
 use Rattle.history_laws.specs.Sound.{ChoosesActors, GoesByRow}
 use Rattle.machine_laws.specs.Laws.{MachineGoesOn, RowsMeetAll, RowsMakeLegal, WholeRunsAreLegal}
-use Rattle.machine_laws.specs.Standing.{MachineInOrder, RunInOrder}
+use Rattle.machine_laws.specs.InOrder.{MachineInOrder, RunInOrder}
 
 pub machine_of_run : (p : Listing) (m : MachineSpec) (image : Contents) (journal : List Event) → RunInOrder p m image journal → MachineInOrder m journal
 machine_of_run p m image journal h = record { sound = h.run.sound; invariants = h.invariants }

@@ -16,7 +16,7 @@ use Rattle.pei_types.specs.declared.events.EventKind.{EventKind}
 use Rattle.pei_types.specs.declared.events.EventKind.TheVariants as event
 use Rattle.pei_types.specs.declared.machines.MachineSpec.{MachineSpec}
 use Rattle.pei_types.specs.Calls.{Messages, FollowsPei, is_actor_of, side_of}
-use Rattle.pei_types.specs.Coherence.{State, start_state, next_state, state_after, letter_of, mark_of, is_i, is_owned, look_of, is_phase, with_l1_front}
+use Rattle.pei_types.specs.MachineState.{State, start_state, next_state, state_after, letter_of, mark_of, is_i, is_owned, look_of, is_phase, with_l1_front}
 use Rattle.pei_types.specs.Core.{CoreNext}
 use Rattle.pei_types.specs.Exclusion.{EntersAlone}
 use Rattle.pei_types.specs.FlatMemory.{flat_block}
@@ -34,7 +34,7 @@ use Rattle.coherence_laws.specs.Holdings.{Holdings, held_copy, start_holdings, n
 use Rattle.coherence_laws.specs.Invariants.{Invariants, HoldsSeal, caches_alone}
 use Rattle.coherence_laws.specs.Laws.{IsNoRace}
 use Rattle.machine_laws.specs.Memory.{HoldsMemory, SameHoldings, seen_block, holdings_after}
-use Rattle.machine_laws.specs.Standing.{MachineInOrder, RunInOrder}
+use Rattle.machine_laws.specs.InOrder.{MachineInOrder, RunInOrder}
 
 -- The machine below the cores starts in order. An event that is the next row of an actor of the machine, where x is what
 -- its core does next, and that enters only on a free entry, meets every clause with x; and one that meets every clause

@@ -1,3 +1,3 @@
-pub mod Standing
+pub mod InOrder
 pub mod Memory
 pub mod Laws

@@ -5,7 +5,7 @@ use Rattle.pei_types.specs.declared.identifiers.BlockNo.{BlockNo}
 use Rattle.pei_types.specs.declared.inflight_looks.Phase.TheVariants as phase
 use Rattle.pei_types.specs.declared.events.Event.{Event}
 use Rattle.pei_types.specs.declared.machines.MachineSpec.{MachineSpec}
-use Rattle.pei_types.specs.Coherence.{State, state_after, is_phase}
+use Rattle.pei_types.specs.MachineState.{State, state_after, is_phase}
 use Rattle.pei_types.specs.History.{fold_history}
 use Rattle.pei_types.specs.Program.{Contents}
 use Rattle.coherence_laws.specs.Data.{DataHolds, BuffersHold, peek}

@@ -4,7 +4,7 @@ use Rattle.std.specs.Prelude.{slice_index_or, IfSome, is_some}
 use Rattle.std.specs.List.{list_any}
 use Rattle.std.proofs.lemmas.List.{get_or_default}
 use Rattle.pei_types.specs.declared.identifiers.BlockNo.{BlockNo}
-use Rattle.pei_types.specs.Coherence.{is_i}
+use Rattle.pei_types.specs.MachineState.{is_i}
 use Rattle.pei_types.specs.Recency.{list_at, victim}
 use Rattle.set_lists.specs.Placed.{Placed, IsAt, IsListed, key_at, is_key, has_key}
 use Rattle.set_lists.specs.Laws.{held, Tells, SetsFollow}
@@ -43,8 +43,8 @@ absent_in laws v lines kept b set home within none (Some slot) is =
     let at = laws.known v set b.0 slot is
     in absurd (true≢false (sym none ∙ ap (λ x. is_i (letter_in x)) (copy_at laws v lines kept b set slot home within at) ∙ (kept.each set slot at.listed).copy))
 
-pub is_absent : SetsFollow CopyLine → (v : Placed) (lines : List CopyLine) → IsKept v lines → (b : BlockNo) (set : ℕ) → set ≡ b.0 % length v.lists → set < length v.lists → is_i (letter_of (cache_of v lines) b) ≡ true → find (has_key v.keys b.0) (list_at v.lists set) ≡ None
-is_absent laws v lines kept b set home within none =
+pub lacks_block : SetsFollow CopyLine → (v : Placed) (lines : List CopyLine) → IsKept v lines → (b : BlockNo) (set : ℕ) → set ≡ b.0 % length v.lists → set < length v.lists → is_i (letter_of (cache_of v lines) b) ≡ true → find (has_key v.keys b.0) (list_at v.lists set) ≡ None
+lacks_block laws v lines kept b set home within none =
     absent_in laws v lines kept b set home within none (find (has_key v.keys b.0) (list_at v.lists set)) refl
 
 -- ---- room
@@ -80,7 +80,7 @@ no_line (Some slot) hold h = absurd (no_block (hold slot).block h)
 pub has_room : SetsFollow CopyLine → (v : Placed) (lines : List CopyLine) → IsKept v lines → (b : BlockNo) (set : ℕ) → set ≡ b.0 % length v.lists → set < length v.lists → is_i (letter_of (cache_of v lines) b) ≡ true → room_for (cache_of v lines) b ≡ None → length (list_at v.lists set) < v.ways
 has_room laws v lines kept b set home within absent none =
     laws.room v.ways (list_at v.lists set) kept.placed.some_ways (kept.placed.within set)
-    (no_line (victim v.ways (list_at v.lists set)) (line_at lines) (sym (room_is laws v lines kept b set home (is_absent laws v lines kept b set home within absent)) ∙ none))
+    (no_line (victim v.ways (list_at v.lists set)) (line_at lines) (sym (room_is laws v lines kept b set home (lacks_block laws v lines kept b set home within absent)) ∙ none))
 
 -- ---- slots
 

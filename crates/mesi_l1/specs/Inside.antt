@@ -1,7 +1,7 @@
 -- What a cache is seen as, and what it keeps true of itself.
 use Rattle.std.specs.Prelude.{◌≡◌, ℕ, ◌%◌, false, List, length, replicate, Option, Some, slice_index_or}
 use Rattle.pei_types.specs.declared.operations.Letter.TheVariants as letter
-use Rattle.pei_types.specs.Coherence.{is_i}
+use Rattle.pei_types.specs.MachineState.{is_i}
 use Rattle.set_lists.specs.Placed.{Placed, IsListed, IsPlaced, key_at}
 use Rattle.set_lists.specs.Laws.{held}
 use Rattle.pei_types.specs.declared.lines.CopyLine.{CopyLine}

@@ -9,7 +9,7 @@ use Rattle.std.specs.List.{AllByRecursion, list_all, list_any}
 use Rattle.pei_types.specs.Program.{HasRegisters, Listing}
 use Rattle.asm_statements.specs.Mnemonics.{instruction, core_in, instruction_in}
 use Rattle.asm_statements.specs.Statements.{Line, item_of}
-use Rattle.pei_asm.specs.Spelling.{AreSound, Spells, are_distinct, lines_read, listing_of, place_among, program_of, same_core}
+use Rattle.pei_asm.specs.Meaning.{AreSound, Spells, are_distinct, lines_read, listing_of, place_among, program_of, same_core}
 use Rattle.pei_asm.specs.Canonical.{IsPrintable, ask_line, canonical, entry_line, instr_lines, is_at, is_named, label, last_line, own_entry_lines, statistics_line, target_of, words_line}
 use Rattle.pei_asm.proofs.InstrLines.{IsSmall, aimed}
 use Rattle.pei_asm.proofs.Headers.{IsPlace, IsSmallAsk, IsWordsLine}

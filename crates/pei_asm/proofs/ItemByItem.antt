@@ -13,8 +13,8 @@ use Rattle.pei_types.specs.declared.instructions.Ask.{Ask}
 use Rattle.pei_types.specs.declared.instructions.Instr.{Instr}
 use Rattle.pei_types.specs.Program.{Listing}
 use Rattle.asm_statements.specs.Mnemonics.{Item, instruction, entry, words, shown, statistics, instruction_in}
-use Rattle.pei_asm.specs.Spelling.{ask_in, entry_among, entry_in, is_statistics, listing_of, same_core, words_in}
-use Rattle.pei_asm.specs.Building.{with_common_entry, with_item, with_own_entry}
+use Rattle.pei_asm.specs.Meaning.{ask_in, entry_among, entry_in, is_statistics, listing_of, same_core, words_in}
+use Rattle.pei_asm.specs.Items.{with_common_entry, with_item, with_own_entry}
 use Rattle.std.proofs.Math.Bool.{or-false, or-true}
 use Rattle.pei_types.proofs.Tests.{option_or-None}
 

@@ -9,7 +9,7 @@ use Rattle.std.specs.List.{cons_option, list_any}
 use Rattle.std.specs.Option.{option_map_or, option_or}
 use Rattle.std.specs.Str.{bytes_eq}
 use Rattle.asm_statements.specs.Statements.{Line}
-use Rattle.pei_asm.specs.Spelling.{are_distinct, are_new, defines, instruction_count, labels_defined, place_among}
+use Rattle.pei_asm.specs.Meaning.{are_distinct, are_new, defines, instruction_count, labels_defined, place_among}
 use Rattle.pei_asm.specs.Stored.{instruction_on}
 use Rattle.pei_asm.specs.Canonical.{label}
 use Rattle.pei_asm.proofs.InstrParts.{label_if}

@@ -6,7 +6,7 @@ use Rattle.std.specs.Option.{option_or, option_to_list}
 use Rattle.std.specs.Str.{byte}
 use Rattle.std.proofs.lemmas.List.Splits.{slice_split_first}
 use Rattle.pei_asm.specs.declared.faults.AsmFault.{AsmFault}
-use Rattle.pei_asm.specs.Spelling.{lines_of}
+use Rattle.pei_asm.specs.Meaning.{lines_of}
 use Rattle.asm_statements.specs.Statements.{Line, meaning_of}
 use Rattle.pei_asm.specs.Faults.{first_line_fault, line_fault}
 

@@ -9,7 +9,7 @@ use Rattle.pei_types.specs.declared.instructions.Instr.TheVariants as instr
 use Rattle.pei_types.specs.Program.{HasRegisters, Listing}
 use Rattle.pei_asm.specs.Canonical.{IsPrintable, canonical}
 use Rattle.pei_asm.specs.MachineNumbers.{HasNumber, HasNumbers, IsLineOfNumbers, IsNumber}
-use Rattle.pei_asm.specs.Spelling.{Spells}
+use Rattle.pei_asm.specs.Meaning.{Spells}
 use Rattle.pei_asm.proofs.InstrLines.{IsSmall}
 use Rattle.pei_asm.proofs.Headers.{IsSmallAsk, IsWordsLine}
 use Rattle.pei_asm.proofs.CanonicalSpells.{canonical_spells}

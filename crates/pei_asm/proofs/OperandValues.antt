@@ -10,7 +10,7 @@ use Rattle.std.proofs.lemmas.List.Quantifiers.{position-Some}
 use Rattle.asm_statements.specs.Tokens.{Token, name, number, comma, colon, star, stray, Placed}
 use Rattle.asm_statements.specs.Mnemonics.{Shape, register_below, any_number, amount, one_core, all_cores, place, fits, fits_more, is_below_zero, is_register_in_range, register_names, register_of, suits, value_of}
 use Rattle.asm_statements.specs.Statements.{tokens_alone}
-use Rattle.pei_asm.specs.Building.{HasValuesFrom, IsValueOf}
+use Rattle.pei_asm.specs.Items.{HasValuesFrom, IsValueOf}
 
 register_below_sixteen : (text : List ℕ) (other : ℕ) → is_some (register_of text) ≡ true → unwrap_or (register_of text) other < 16
 unfolding register_names

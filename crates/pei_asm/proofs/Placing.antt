@@ -14,7 +14,7 @@ use Rattle.std.specs.Str.{bytes_eq}
 use Rattle.std.proofs.lemmas.Bool.{lt-ltb, le-ltb, ltb-true, ltb-false}
 use Rattle.asm_statements.specs.Statements.{Line, Statement, item_anywhere}
 use Rattle.asm_statements.specs.Mnemonics.{core_in, instruction_in}
-use Rattle.pei_asm.specs.Spelling.{cores_given, defines, instruction_count, items_anywhere, labels_defined, place_among, same_core}
+use Rattle.pei_asm.specs.Meaning.{cores_given, defines, instruction_count, items_anywhere, labels_defined, place_among, same_core}
 use Rattle.pei_asm.specs.Faults.{has_entry, is_defined_before, is_one_too_many}
 use Rattle.std.proofs.Math.Bool.{or-false}
 

@@ -8,7 +8,7 @@ use Rattle.std.specs.Str.{bytes_eq, is_utf8}
 use Rattle.pei_types.specs.declared.instructions.Instr.{Instr}
 use Rattle.pei_types.specs.Program.{Listing}
 use Rattle.asm_statements.specs.Tokens.{Token, name, number, comma, colon, star, stray, Placed, tokens_of}
-use Rattle.pei_asm.specs.Spelling.{lines_of, Spells, entry_in, entry_among, same_core, items_anywhere, instruction_count, place_among, items_of, program_of, lines_read}
+use Rattle.pei_asm.specs.Meaning.{lines_of, Spells, entry_in, entry_among, same_core, items_anywhere, instruction_count, place_among, items_of, program_of, lines_read}
 use Rattle.asm_statements.specs.Mnemonics.{Shape, place, Item, instruction, entry, words, shown, statistics, Row, table, rows_named, suits, fits, fits_more, is_register, register_of, value_of, instruction_in}
 use Rattle.asm_statements.specs.Statements.{Statement, Line, label_of, body_of, tokens_alone, separated, fits_row, statement_with, statement_named, statement_in, is_in_range, item_of, line_with, line_from, line_of, meaning_of, item_anywhere}
 use Rattle.pei_asm.specs.Canonical.{target_of, IsPrintable}

@@ -12,7 +12,7 @@ use Rattle.pei_types.specs.declared.instructions.Instr.{Instr}
 use Rattle.pei_types.specs.declared.instructions.Instr.TheVariants as instr
 use Rattle.pei_types.specs.Program.{Listing}
 use Rattle.asm_statements.specs.Mnemonics.{Item, instruction, entry, words, shown, statistics, core_in, instruction_in}
-use Rattle.pei_asm.specs.Spelling.{are_distinct, are_new, ask_in, entry_among, entry_in, is_statistics, listing_of, same_core, words_in}
+use Rattle.pei_asm.specs.Meaning.{are_distinct, are_new, ask_in, entry_among, entry_in, is_statistics, listing_of, same_core, words_in}
 use Rattle.pei_asm.specs.Canonical.{label, target_of}
 use Rattle.pei_asm.proofs.InstrLines.{aimed}
 use Rattle.pei_asm.proofs.Headers.{common_items, own_items, own_items_of}

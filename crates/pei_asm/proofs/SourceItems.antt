@@ -13,8 +13,8 @@ use Rattle.asm_statements.specs.declared.mnemonics.Mnemonic.{Mnemonic}
 use Rattle.asm_statements.specs.declared.mnemonics.Mnemonic.TheVariants as known
 use Rattle.asm_statements.specs.Mnemonics.{Item, row_of, value_of, instruction_in}
 use Rattle.asm_statements.specs.Statements.{item_of, tokens_alone, item_anywhere}
-use Rattle.pei_asm.specs.Spelling.{instruction_count, items_anywhere}
-use Rattle.pei_asm.specs.Building.{HasValues, with_item}
+use Rattle.pei_asm.specs.Meaning.{instruction_count, items_anywhere}
+use Rattle.pei_asm.specs.Items.{HasValues, with_item}
 use Rattle.pei_asm.specs.Places.{item_on}
 use Rattle.pei_asm.specs.Sources.{HasWellFormed, IsWellFormed, line_of}
 use Rattle.asm_statements.specs.Sources.{statement_of}

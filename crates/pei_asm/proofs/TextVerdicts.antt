@@ -11,7 +11,7 @@ use Rattle.std.specs.Str.{bytes_eq}
 use Rattle.pei_types.specs.declared.instructions.Instr.{Instr}
 use Rattle.pei_types.specs.Program.{Listing}
 use Rattle.pei_asm.specs.declared.faults.AsmKind.TheVariants as kind
-use Rattle.pei_asm.specs.Spelling.{lines_of, Spells, items_anywhere, instruction_count, same_core, are_new, are_distinct, labels_defined, cores_given, labels_used, is_defined, lines_read, program_of}
+use Rattle.pei_asm.specs.Meaning.{lines_of, Spells, items_anywhere, instruction_count, same_core, are_new, are_distinct, labels_defined, cores_given, labels_used, is_defined, lines_read, program_of}
 use Rattle.asm_statements.specs.Statements.{Statement, Line, meaning_of, item_anywhere}
 use Rattle.asm_statements.specs.Mnemonics.{core_in, instruction_in}
 use Rattle.pei_asm.specs.Faults.{line_fault, first_line_fault, unknown_label, first_fault, has_entry, is_defined_before}

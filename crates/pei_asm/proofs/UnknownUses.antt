@@ -5,7 +5,7 @@ use Rattle.std.specs.Option.{option_or}
 use Rattle.pei_asm.specs.declared.faults.AsmKind.TheVariants as kind
 use Rattle.asm_statements.specs.Tokens.{Placed}
 use Rattle.asm_statements.specs.Statements.{Line}
-use Rattle.pei_asm.specs.Spelling.{is_defined, labels_used, names_label}
+use Rattle.pei_asm.specs.Meaning.{is_defined, labels_used, names_label}
 use Rattle.pei_asm.specs.Faults.{unknown_label}
 use Rattle.pei_asm.specs.Unknown.{is_undefined}
 

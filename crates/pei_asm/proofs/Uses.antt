@@ -11,7 +11,7 @@ use Rattle.pei_types.specs.Program.{HasRegisters}
 use Rattle.asm_statements.specs.Tokens.{Token, name, Placed, tokens_from, tokens_of}
 use Rattle.asm_statements.specs.Mnemonics.{Row, is_label, rows_named}
 use Rattle.asm_statements.specs.Statements.{Statement, Line, behind_label, fits_row, is_in_range, label_of, line_from, line_of, line_with, meaning_of, statement_in, statement_named, statement_with, tokens_alone}
-use Rattle.pei_asm.specs.Spelling.{is_label_token, label_text, names_label}
+use Rattle.pei_asm.specs.Meaning.{is_label_token, label_text, names_label}
 use Rattle.pei_asm.specs.Canonical.{instr_text, label, phrase, register, target_of}
 use Rattle.pei_asm.proofs.Phrases.{Reads, label_reads, phrase_reads, register_of-register, separated_commas, with_commas}
 use Rattle.pei_asm.proofs.InstrLines.{IsSmall, mnemonic_of, operands_of}

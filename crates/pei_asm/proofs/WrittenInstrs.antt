@@ -8,7 +8,7 @@ use Rattle.pei_types.specs.declared.instructions.Instr.{Instr}
 use Rattle.pei_types.specs.Program.{HasRegisters, Listing}
 use Rattle.asm_statements.specs.Mnemonics.{Item, instruction, instruction_in}
 use Rattle.asm_statements.specs.Statements.{Line, item_of}
-use Rattle.pei_asm.specs.Spelling.{label_text, names_label}
+use Rattle.pei_asm.specs.Meaning.{label_text, names_label}
 use Rattle.pei_asm.specs.Canonical.{instr_line, instr_lines, instr_text, is_named, label, last_line, line, target_of}
 use Rattle.pei_asm.proofs.InstrLines.{IsSmall, aimed}
 use Rattle.pei_asm.proofs.InstrParts.{label_if}

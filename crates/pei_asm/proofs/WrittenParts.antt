@@ -12,7 +12,7 @@ use Rattle.pei_types.specs.declared.instructions.Ask.TheVariants as ask
 use Rattle.asm_statements.specs.Tokens.{Token, name, number, star}
 use Rattle.asm_statements.specs.Mnemonics.{Item, words, shown, statistics}
 use Rattle.asm_statements.specs.Statements.{Line, item_of}
-use Rattle.pei_asm.specs.Spelling.{label_text, labels_defined, labels_used, names_label}
+use Rattle.pei_asm.specs.Meaning.{label_text, labels_defined, labels_used, names_label}
 use Rattle.pei_asm.specs.Canonical.{ask_line, entry_line, label, line, own_entry_lines, phrase, statistics_line, words_line}
 use Rattle.pei_asm.proofs.Phrases.{Reads, label_reads, number_reads}
 use Rattle.pei_asm.proofs.CanonicalLines.{literal_reads}

@@ -7,7 +7,7 @@ use Rattle.pei_asm.specs.declared.faults.AsmFault.{AsmFault}
 use Rattle.pei_asm.specs.declared.faults.AsmKind.{AsmKind}
 use Rattle.pei_asm.specs.declared.faults.AsmKind.TheVariants as kind
 use Rattle.asm_statements.specs.Tokens.{Placed, tokens_of}
-use Rattle.pei_asm.specs.Spelling.{lines_of, instruction_count, same_core, labels_defined, cores_given, labels_used, is_defined, lines_read}
+use Rattle.pei_asm.specs.Meaning.{lines_of, instruction_count, same_core, labels_defined, cores_given, labels_used, is_defined, lines_read}
 use Rattle.asm_statements.specs.Mnemonics.{core_in, instruction_in}
 use Rattle.asm_statements.specs.Statements.{Statement, Line, label_of, body_of, statement_in, meaning_of, item_anywhere}
 use Rattle.asm_statements.specs.LineFaults.{column_if, first_column, not_utf8, bad_char, unknown_name, wrong_operands, number_too_large, register_range}

@@ -1,4 +1,4 @@
-pub mod Spelling
+pub mod Meaning
 pub mod Faults
 pub mod Canonical
 pub mod Laws
@@ -6,7 +6,7 @@ pub mod Sources
 pub mod Stored
 pub mod Trials
 pub mod Unknown
-pub mod Building
+pub mod Items
 pub mod Places
 pub mod Examples
 pub mod Named

@@ -4,8 +4,8 @@ use Rattle.std.specs.Option.{option_map_or}
 use Rattle.pei_types.specs.Program.{Listing}
 use Rattle.asm_statements.specs.Mnemonics.{Item}
 use Rattle.asm_statements.specs.Statements.{Line, item_of}
-use Rattle.pei_asm.specs.Spelling.{place_among}
-use Rattle.pei_asm.specs.Building.{with_item}
+use Rattle.pei_asm.specs.Meaning.{place_among}
+use Rattle.pei_asm.specs.Items.{with_item}
 
 -- the place of a label, and 0 where it has none
 abbrev pub place_or_start : List Line → List ℕ → ℕ

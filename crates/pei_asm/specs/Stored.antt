@@ -3,7 +3,7 @@ use Rattle.std.specs.Prelude.{◌≡◌, ℕ, ◌≤◌, ◌<◌, List, [], ◌�
 use Rattle.std.specs.Option.{option_and_then}
 use Rattle.pei_types.specs.declared.instructions.Instr.{Instr}
 use Rattle.pei_asm.specs.declared.lines.Lines.{Lines}
-use Rattle.pei_asm.specs.Spelling.{lines_of, instruction_count, place_among}
+use Rattle.pei_asm.specs.Meaning.{lines_of, instruction_count, place_among}
 use Rattle.asm_statements.specs.Statements.{Line, item_anywhere}
 use Rattle.asm_statements.specs.Mnemonics.{core_in, instruction_in}
 use Rattle.pei_asm.specs.Faults.{has_entry}

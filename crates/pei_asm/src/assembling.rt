@@ -3,7 +3,7 @@
 ghost use Rattle.std.specs.Prelude.{◌≡◌, ◌≢◌, ◌<◌, Some, length, IfOk, IfErr};
 ghost use Rattle.pei_asm.specs.Canonical.{IsPrintable};
 ghost use Rattle.pei_asm.specs.Faults.{first_fault};
-ghost use Rattle.pei_asm.specs.Spelling.{Spells};
+ghost use Rattle.pei_asm.specs.Meaning.{Spells};
 ghost use Rattle.pei_asm.specs.declared.faults.AsmKind.TheVariants as kind;
 
 use crate::building::program_of;

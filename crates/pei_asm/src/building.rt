@@ -4,10 +4,10 @@ ghost use Rattle.std.specs.Prelude.{◌≡◌, ◌<◌, ◌≤◌, length, map, 
 ghost use Rattle.asm_statements.specs.Lexemes.{placed_of, token_of};
 ghost use Rattle.asm_statements.specs.Mnemonics.{is_number_in_range, value_of, instruction_in};
 ghost use Rattle.pei_asm.specs.Places.{item_on, place_or_start, with_line};
-ghost use Rattle.pei_asm.specs.Building.{with_item};
+ghost use Rattle.pei_asm.specs.Items.{with_item};
 ghost use Rattle.pei_asm.specs.Sources.{HasWellFormed, IsWellFormed, line_of};
 ghost use Rattle.asm_statements.specs.Sources.{statement_of};
-ghost use Rattle.pei_asm.specs.Spelling.{program_of};
+ghost use Rattle.pei_asm.specs.Meaning.{program_of};
 ghost use Rattle.asm_statements.specs.Statements.{item_of, tokens_alone};
 ghost use Rattle.pei_asm.specs.Stored.{IsStored, stored};
 

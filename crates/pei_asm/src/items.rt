@@ -3,7 +3,7 @@
 ghost use Rattle.std.specs.Prelude.{◌≡◌, ◌<◌, ◌+◌, ◌^◌, length, slice_index, is_some, true, false, IfSome, OnOk};
 ghost use Rattle.pei_types.specs.Program.{HasRegisters};
 ghost use Rattle.asm_statements.specs.Mnemonics.{row_of, instruction_in};
-ghost use Rattle.pei_asm.specs.Building.{HasValues, with_common_entry, with_item, with_own_entry};
+ghost use Rattle.pei_asm.specs.Items.{HasValues, with_common_entry, with_item, with_own_entry};
 
 use asm_statements::Mnemonic;
 use pei_types::{Ask, CoreId, Instr, OutOfMemory, Program};

@@ -1,7 +1,7 @@
 //! The assembler: the program that an assembly text spells, or the text's first fault.
 //!
 //! A text is UTF-8 and has lines. A line has an optional label with a colon, then optionally an instruction or a
-//! directive, and a comment from `#` or `;` on. The crate `asm_statements` says what one line means; here `specs/Spelling`
+//! directive, and a comment from `#` or `;` on. The crate `asm_statements` says what one line means; here `specs/Meaning`
 //! says what program a text spells, and `specs/Faults` which fault a text has first.
 #![tactic(auto)]
 

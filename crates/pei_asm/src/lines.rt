@@ -5,7 +5,7 @@ ghost use Rattle.std.specs.Option.{option_map_or};
 ghost use Rattle.pei_asm.specs.Faults.{has_entry, is_defined_before, is_one_too_many};
 ghost use Rattle.pei_asm.specs.Sources.{HasWellFormed, line_of, place_in};
 ghost use Rattle.pei_asm.specs.Stored.{IsStored, entry_on, instruction_on, stored, with_label};
-ghost use Rattle.pei_asm.specs.Spelling.{instruction_count, place_among, same_core};
+ghost use Rattle.pei_asm.specs.Meaning.{instruction_count, place_among, same_core};
 
 use crate::labels::Labels;
 use asm_statements::SourceStatement;

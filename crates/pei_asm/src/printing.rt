@@ -5,7 +5,7 @@ ghost use Rattle.pei_types.specs.Program.{HasRegisters};
 ghost use Rattle.pei_asm.specs.Canonical.{IsPrintable, ask_line, canonical, entry_line, instr_lines, instr_text, label, last_line, line, listed, own_entry_lines, statistics_line, words_line};
 ghost use Rattle.pei_asm.specs.MachineNumbers.{HasNumber, HasNumbers, IsLineOfNumbers, IsNumber};
 ghost use Rattle.pei_asm.specs.Named.{HasNamed};
-ghost use Rattle.pei_asm.specs.Spelling.{Spells};
+ghost use Rattle.pei_asm.specs.Meaning.{Spells};
 
 use crate::named::named_places;
 use crate::pieces::{add, add_instr, add_label, add_number};

@@ -4,7 +4,7 @@ ghost use Rattle.std.specs.Prelude.{◌≡◌, ◌≢◌, ◌<◌, ◌≤◌, �
 ghost use Rattle.std.specs.List.{prefix_len};
 ghost use Rattle.std.specs.Str.{byte};
 ghost use Rattle.pei_asm.specs.Faults.{first_line_fault};
-ghost use Rattle.pei_asm.specs.Spelling.{lines_read, lines_of};
+ghost use Rattle.pei_asm.specs.Meaning.{lines_read, lines_of};
 ghost use Rattle.pei_asm.specs.Stored.{IsStored, lines_left, stored};
 ghost use Rattle.pei_asm.specs.declared.faults.AsmKind.TheVariants as kind;
 

@@ -4,7 +4,7 @@ ghost use Rattle.std.specs.Prelude.{◌≡◌, ◌≢◌, ◌≤◌, length, map
 ghost use Rattle.pei_asm.specs.Faults.{unknown_label};
 ghost use Rattle.asm_statements.specs.Lexemes.{placed_of};
 ghost use Rattle.pei_asm.specs.Sources.{line_of};
-ghost use Rattle.pei_asm.specs.Spelling.{is_defined, labels_used};
+ghost use Rattle.pei_asm.specs.Meaning.{is_defined, labels_used};
 ghost use Rattle.pei_asm.specs.Stored.{IsStored, stored};
 ghost use Rattle.pei_asm.specs.Unknown.{is_undefined};
 ghost use Rattle.pei_asm.specs.declared.faults.AsmKind.TheVariants as kind;

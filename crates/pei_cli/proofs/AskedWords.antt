@@ -3,7 +3,7 @@ use Rattle.std.proofs.Common.{◌≡◌, ℕ, ◌<◌, ◌≤◌, Bool, true, fa
 use Rattle.std.specs.Str.{bytes_eq}
 use Rattle.std.proofs.lemmas.Slice.Eq.{bytes_eq-Decides}
 use Rattle.sched_run.specs.declared.policies.Policy.{Policy}
-use Rattle.pei_cli.specs.Asking.{checks_as, machine_as, output_as, runs_as}
+use Rattle.pei_cli.specs.Words.{checks_as, machine_as, output_as, runs_as}
 use Rattle.pei_cli.specs.Commands.{MachineWord, Run, ScheduleWord, Sched, Check, Output, machine_word, schedule_word, turns_word, sched_words, asm_words, run_words, check_words, gen_words, output_words}
 use Rattle.pei_cli.specs.Jobs.{asked_by, asked_of, policy_of_word}
 use Rattle.pei_cli.specs.declared.words.Machine.{Machine}

@@ -6,7 +6,7 @@ use Rattle.pei_io.specs.declared.files.Which.{Which}
 use Rattle.pei_io.specs.declared.files.Which.TheVariants as which
 use Rattle.pei_io.specs.Outside.{LeavesOthers}
 use Rattle.pei_cli.specs.Jobs.{Question, Checks}
-use Rattle.pei_cli.specs.Serving.{LoadsAndJudges, ReadsMachine, ReadsProgram, Serves}
+use Rattle.pei_cli.specs.Outcomes.{LoadsAndJudges, ReadsMachine, ReadsProgram, Serves}
 use Rattle.pei_cli.specs.Uses.{FileUse, IsUnopened, SinkUse, file_use}
 use Rattle.pei_cli.specs.declared.ends.PlainEnd.{PlainEnd}
 use Rattle.pei_cli.specs.declared.faults.Fault.{Fault}

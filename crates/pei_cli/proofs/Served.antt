@@ -21,7 +21,7 @@ use Rattle.fabric.specs.History.{History}
 use Rattle.pei_cli.specs.Commands.{Output}
 use Rattle.pei_cli.specs.FaultLines.{fault_of_loading}
 use Rattle.pei_cli.specs.Jobs.{Job}
-use Rattle.pei_cli.specs.Serving.{Begins, RunsJob, output_text}
+use Rattle.pei_cli.specs.Outcomes.{Begins, RunsJob, output_text}
 use Rattle.pei_cli.specs.Uses.{SinkUse}
 use Rattle.pei_cli.specs.declared.ends.PlainEnd.TheVariants as ends
 use Rattle.pei_cli.specs.declared.faults.Fault.TheVariants as fault

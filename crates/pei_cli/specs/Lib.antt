@@ -1,7 +1,7 @@
 pub mod Commands
 pub mod Jobs
-pub mod Asking
+pub mod Words
 pub mod FaultLines
 pub mod VerdictLines
 pub mod Uses
-pub mod Serving
+pub mod Outcomes

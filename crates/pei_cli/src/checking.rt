@@ -3,9 +3,9 @@
 ghost use Rattle.std.specs.Prelude.{◌≡◌, ◌≢◌, ◌≤◌, ◌*◌, length, None, IfErr};
 ghost use Rattle.pei_io.specs.declared.files.Which.{Which};
 ghost use Rattle.pei_io.specs.Outside.{LeavesOthers};
-ghost use Rattle.pei_cli.specs.Asking.{HasBuiltInCores, checks_as};
+ghost use Rattle.pei_cli.specs.Words.{HasBuiltInCores, checks_as};
 ghost use Rattle.pei_cli.specs.Jobs.{file_of};
-ghost use Rattle.pei_cli.specs.Serving.{Judges, LoadsAndJudges, Serves};
+ghost use Rattle.pei_cli.specs.Outcomes.{Judges, LoadsAndJudges, Serves};
 ghost use Rattle.pei_cli.specs.Uses.{TouchesOnly, file_use, sink_use};
 
 use crate::ends::PlainEnd;

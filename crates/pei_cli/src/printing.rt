@@ -4,7 +4,7 @@ ghost use Rattle.std.specs.Prelude.{◌≡◌, ◌≢◌, ◌≤◌, None, IfErr
 ghost use Rattle.pei_asm.specs.Canonical.{IsPrintable};
 ghost use Rattle.pei_io.specs.Outside.{LeavesOthers};
 ghost use Rattle.pei_cli.specs.Jobs.{Prints};
-ghost use Rattle.pei_cli.specs.Serving.{PrintsProgram, Serves, WritesGenerated};
+ghost use Rattle.pei_cli.specs.Outcomes.{PrintsProgram, Serves, WritesGenerated};
 ghost use Rattle.pei_cli.specs.Uses.{file_use, sink_use};
 
 use crate::ends::PlainEnd;

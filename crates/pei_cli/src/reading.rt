@@ -3,9 +3,9 @@
 ghost use Rattle.std.specs.Prelude.{◌≡◌, ◌≤◌, None, IfOk, IfErr};
 ghost use Rattle.pei_asm.specs.Canonical.{IsPrintable};
 ghost use Rattle.pei_io.specs.Outside.{LeavesOthers};
-ghost use Rattle.pei_cli.specs.Asking.{HasBuiltInCores, machine_as};
+ghost use Rattle.pei_cli.specs.Words.{HasBuiltInCores, machine_as};
 ghost use Rattle.pei_cli.specs.Commands.{FromFile, file_of_machine};
-ghost use Rattle.pei_cli.specs.Serving.{FailsToRead, IsRead, ReadsMachine, ReadsProgram, ReadsTrace, most_bytes};
+ghost use Rattle.pei_cli.specs.Outcomes.{FailsToRead, IsRead, ReadsMachine, ReadsProgram, ReadsTrace, most_bytes};
 ghost use Rattle.pei_cli.specs.Uses.{file_use};
 
 use crate::faults::{Fault, machine_fault, text_fault};

@@ -3,13 +3,13 @@
 ghost use Rattle.std.specs.Prelude.{◌≡◌, ◌≢◌, ◌≤◌, ◌*◌, ℕ, List, All, None, IfErr};
 ghost use Rattle.pei_io.specs.Outside.{Writes};
 ghost use Rattle.pei_io.specs.declared.files.Which.{Which};
-ghost use Rattle.sched_run.specs.Choosing.{HasActorsOf};
+ghost use Rattle.sched_run.specs.Choice.{HasActorsOf};
 ghost use Rattle.pei_types.specs.declared.machines.MachineSpec.{MachineSpec};
 ghost use Rattle.pei_types.specs.Ends.{ends_of, status_of};
 ghost use Rattle.report.specs.Shown.{HasWords};
-ghost use Rattle.pei_cli.specs.Asking.{HasBuiltInCores, job_of, output_as, runs_as};
+ghost use Rattle.pei_cli.specs.Words.{HasBuiltInCores, job_of, output_as, runs_as};
 ghost use Rattle.pei_cli.specs.Jobs.{file_of};
-ghost use Rattle.pei_cli.specs.Serving.{RunsJob, Serves, output_text};
+ghost use Rattle.pei_cli.specs.Outcomes.{RunsJob, Serves, output_text};
 ghost use Rattle.pei_cli.specs.Uses.{TouchesOnly, file_use, sink_use};
 
 use crate::ends::PlainEnd;

@@ -3,7 +3,7 @@
 ghost use Rattle.std.specs.Prelude.{◌≡◌, ◌≢◌, ◌≤◌, ◌↔◌, ℕ, None, Some, Err, IfSome, IfErr};
 ghost use Rattle.pei_io.specs.declared.files.Which.{Which};
 ghost use Rattle.pei_cli.specs.Jobs.{Generates, asked_of, file_of};
-ghost use Rattle.pei_cli.specs.Serving.{Serves};
+ghost use Rattle.pei_cli.specs.Outcomes.{Serves};
 ghost use Rattle.pei_cli.specs.Uses.{TouchesOnly, file_use, sink_use};
 
 use crate::checking::check_file;

@@ -2,10 +2,10 @@
 
 ghost use Rattle.std.specs.Prelude.{◌≡◌, ◌+◌, ◌<◌, [], Some, None, length, get_or, IfSome, option_map, if◌then◌else◌, true};
 ghost use Rattle.pei_types.specs.declared.machines.MachineSpec.{MachineSpec};
-ghost use Rattle.sched_run.specs.Choosing.{HasActorsOf};
+ghost use Rattle.sched_run.specs.Choice.{HasActorsOf};
 ghost use Rattle.pei_cli.specs.Commands.{asm_words, check_words, decimal_below, machine_word, output_words, schedule_word, sched_words, gen_words};
 ghost use Rattle.pei_cli.specs.Jobs.{Generates, Prints, asked_by, policy_of_word};
-ghost use Rattle.pei_cli.specs.Asking.{Asks, HasBuiltInCores, checks_as, machine_as, output_as, runs_as};
+ghost use Rattle.pei_cli.specs.Words.{Asks, HasBuiltInCores, checks_as, machine_as, output_as, runs_as};
 
 use pei_io::Text;
 use sched_run::Policy;

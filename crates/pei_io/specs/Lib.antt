@@ -1,5 +1,5 @@
 pub mod Outside
-pub mod Reading
+pub mod ReadEnds
 pub mod Memory
 pub mod MemoryFiles
 pub mod Tally

@@ -1,9 +1,11 @@
-//! What peisim reads and writes: the traits of its outside objects, objects in memory, and thin adapters over std.
+//! What peisim reads and writes: the traits of its outside objects, objects in memory, thin adapters over std, and
+//! the gate that threads pass.
 #![tactic(auto)]
 
 mod bytes;
 mod disk;
 mod files;
+mod gates;
 pub mod laws;
 mod mem_file;
 mod mem_files;
@@ -18,6 +20,7 @@ mod text;
 pub use bytes::Bytes;
 pub use disk::DiskFiles;
 pub use files::{Failed, Files, Which};
+pub use gates::{FreeGate, Gate};
 pub use mem_files::MemFiles;
 pub use mem_sink::MemSink;
 pub use reading::{ReadEnd, read_limited};

@@ -2,7 +2,7 @@
 
 ghost use Rattle.std.specs.Prelude.{◌≡◌, ◌≢◌, ◌≤◌, ◌+◌, None, Some, Err};
 ghost use Rattle.pei_io.specs.Outside.{LeavesOthers};
-ghost use Rattle.pei_io.specs.Reading.{EndsReading};
+ghost use Rattle.pei_io.specs.ReadEnds.{EndsReading};
 ghost use Rattle.pei_io.specs.declared.reading.ReadEnd.TheVariants as ends;
 
 use crate::bytes::Bytes;

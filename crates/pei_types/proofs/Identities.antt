@@ -11,7 +11,7 @@ use Rattle.pei_types.specs.declared.inflight_looks.PeiLook.{PeiLook}
 use Rattle.pei_types.specs.declared.machines.MachineSpec.{MachineSpec}
 use Rattle.pei_types.specs.Blocks.{same_block, same_core, same_lane, same_pei}
 use Rattle.pei_types.specs.Calls.{is_actor_of}
-use Rattle.pei_types.specs.Coherence.{State, look_in}
+use Rattle.pei_types.specs.MachineState.{State, look_in}
 use Rattle.pei_types.specs.Next.{Makes}
 use Rattle.pei_types.proofs.Lists.{found_passes}
 use Rattle.pei_types.proofs.Tests.{eqb_sym, same_self}

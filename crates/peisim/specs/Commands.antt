@@ -13,7 +13,7 @@ use Rattle.pei_io.specs.declared.files.Which.{Which}
 use Rattle.pei_io.specs.declared.files.Failed.{Failed}
 use Rattle.pei_cli.specs.FaultLines.{fault_line}
 use Rattle.pei_cli.specs.Jobs.{Generates, asked_of, file_of}
-use Rattle.pei_cli.specs.Serving.{Serves}
+use Rattle.pei_cli.specs.Outcomes.{Serves}
 use Rattle.pei_cli.specs.Uses.{TouchesOnly, file_use, sink_use}
 use Rattle.pei_cli.specs.declared.ends.PlainEnd.{PlainEnd}
 use Rattle.pei_cli.specs.declared.faults.Fault.{Fault}

@@ -9,7 +9,7 @@ use Rattle.pei_types.specs.declared.events.EventKind.{EventKind}
 use Rattle.pei_types.specs.declared.events.EventKind.TheVariants as event
 use Rattle.pei_types.specs.declared.machines.MachineSpec.{MachineSpec}
 use Rattle.pei_types.specs.Blocks.{word_of}
-use Rattle.pei_types.specs.Coherence.{State, conflict, is_i, is_owned, letter_of}
+use Rattle.pei_types.specs.MachineState.{State, conflict, is_i, is_owned, letter_of}
 use Rattle.pei_types.specs.Next.{Makes, race_or, want}
 use Rattle.pmu_dispatch.specs.declared.looks.WantLooks.{WantLooks}
 use Rattle.pmu_dispatch.specs.declared.accesses.AccessNext.TheVariants as access

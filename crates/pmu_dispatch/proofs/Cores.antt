@@ -9,7 +9,7 @@ use Rattle.pei_types.specs.declared.machines.MachineSpec.{MachineSpec}
 use Rattle.pei_types.specs.declared.operations.Letter.{Letter}
 use Rattle.pei_types.specs.declared.operations.Letter.TheVariants as letter
 use Rattle.pei_types.specs.Blocks.{same_core}
-use Rattle.pei_types.specs.Coherence.{State, LlcLine, is_i, is_owned, is_sealed, letter_of, mark_of, cores_of, no_other_has}
+use Rattle.pei_types.specs.MachineState.{State, LlcLine, is_i, is_owned, is_sealed, letter_of, mark_of, cores_of, no_other_has}
 use Rattle.pei_types.specs.Next.{holder, owner, other_holder, other_owner, l1_victim as own_victim}
 use Rattle.pmu_dispatch.specs.Shown.{core_of, first_core, other_letters, eight_letters, victim_shown, llc_victim_shown, AreLooksOf}
 use Rattle.pmu_dispatch.specs.declared.looks.Victim.{Victim}

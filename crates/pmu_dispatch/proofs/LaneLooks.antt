@@ -7,7 +7,7 @@ use Rattle.pei_types.specs.declared.inflight_looks.PeiLook.{PeiLook}
 use Rattle.pei_types.specs.declared.events.EventKind.{EventKind}
 use Rattle.pei_types.specs.declared.machines.MachineSpec.{MachineSpec}
 use Rattle.pei_types.specs.declared.operations.Letter.TheVariants as letter
-use Rattle.pei_types.specs.Coherence.{State, is_i, is_owned, letter_of, mark_of}
+use Rattle.pei_types.specs.MachineState.{State, is_i, is_owned, letter_of, mark_of}
 use Rattle.pei_types.specs.Next.{holder, owner, want}
 use Rattle.pmu_dispatch.specs.declared.looks.WantLooks.{WantLooks}
 use Rattle.pmu_dispatch.specs.Shown.{AreBlocksLooksOf, first_core}

@@ -4,7 +4,7 @@ use Rattle.pei_types.specs.declared.identifiers.BlockNo.{BlockNo}
 use Rattle.pei_types.specs.declared.identifiers.CoreId.{CoreId}
 use Rattle.pei_types.specs.declared.events.EventKind.{EventKind}
 use Rattle.pei_types.specs.declared.machines.MachineSpec.{MachineSpec}
-use Rattle.pei_types.specs.Coherence.{State, Line, LlcLine, is_absent, is_dirty, is_sealed, mark_of, llc_set, no_other_has}
+use Rattle.pei_types.specs.MachineState.{State, Line, LlcLine, is_absent, is_dirty, is_sealed, mark_of, llc_set, no_other_has}
 use Rattle.pei_types.specs.Next.{want, bring_in, evict, make_room, grant, grant_shared, grant_modify, holder, other_holder, other_owner, l1_victim}
 use Rattle.pei_types.specs.Recency.{victim}
 use Rattle.pmu_dispatch.specs.Steps.{is_message}

@@ -9,7 +9,7 @@ use Rattle.pei_types.specs.declared.machines.MachineSpec.{MachineSpec}
 use Rattle.pei_types.specs.declared.operations.Letter.{Letter}
 use Rattle.pei_types.specs.declared.operations.Letter.TheVariants as letter
 use Rattle.pei_types.specs.Blocks.{vault_of}
-use Rattle.pei_types.specs.Coherence.{State, LlcLine, letters_of, mark_of, is_absent, is_i, is_owned, llc_set, is_sealed, first_unentered, queue_of, queue_is_full}
+use Rattle.pei_types.specs.MachineState.{State, LlcLine, letters_of, mark_of, is_absent, is_i, is_owned, llc_set, is_sealed, first_unentered, queue_of, queue_is_full}
 use Rattle.pei_types.specs.Next.{l1_victim as own_victim}
 use Rattle.pei_types.specs.Recency.{victim}
 use Rattle.pmu_dispatch.specs.declared.looks.WantLooks.{WantLooks}

@@ -9,7 +9,7 @@ use Rattle.pei_types.specs.declared.events.EventKind.{EventKind}
 use Rattle.pei_types.specs.declared.events.EventKind.TheVariants as event
 use Rattle.pei_types.specs.declared.machines.MachineSpec.{MachineSpec}
 use Rattle.pei_types.specs.Blocks.{block_of, word_of, vault_of, tag_of, llc_set_of}
-use Rattle.pei_types.specs.Coherence.{State, conflict}
+use Rattle.pei_types.specs.MachineState.{State, conflict}
 use Rattle.pei_types.specs.Monitor.{placement}
 use Rattle.pei_types.specs.Next.{Turn, Makes, Stalls, call_row, act_kind}
 use Rattle.pei_types.specs.Recency.{list_at}

@@ -1,8 +1,8 @@
 //! What the caches show of a block, and which cores have it.
 
 ghost use Rattle.std.specs.Prelude.{◌≡◌, ◌<◌, not, slice_index_or};
-ghost use Rattle.pei_types.specs.Coherence.{is_i};
-ghost use Rattle.pei_types.specs.Coherence.{is_owned as is_owned_lem, is_absent as is_absent_lem, is_dirty as is_dirty_lem};
+ghost use Rattle.pei_types.specs.MachineState.{is_i};
+ghost use Rattle.pei_types.specs.MachineState.{is_owned as is_owned_lem, is_absent as is_absent_lem, is_dirty as is_dirty_lem};
 ghost use Rattle.pmu_dispatch.specs.Shown.{first_core};
 ghost use Rattle.pmu_dispatch.specs.Shown.{other_letters as other_letters_lem};
 

@@ -2,8 +2,8 @@
 
 ghost use Rattle.std.specs.Prelude.{◌≡◌, ◌<◌, true, false};
 ghost use Rattle.pei_types.specs.declared.machines.MachineSpec.{MachineSpec};
-ghost use Rattle.pei_types.specs.Coherence.{State, LlcLine, mark_of, llc_set};
-ghost use Rattle.pei_types.specs.Coherence.{is_absent as is_absent_lem};
+ghost use Rattle.pei_types.specs.MachineState.{State, LlcLine, mark_of, llc_set};
+ghost use Rattle.pei_types.specs.MachineState.{is_absent as is_absent_lem};
 ghost use Rattle.pei_types.specs.Next.{want, grant};
 ghost use Rattle.pei_types.specs.Next.{bring_in as bring_in_lem, evict as evict_lem, holder as holder_lem};
 ghost use Rattle.pei_types.specs.Recency.{victim as last_line};

@@ -11,12 +11,12 @@ use Rattle.pei_types.specs.declared.machines.MachineSpec.{MachineSpec}
 use Rattle.pei_types.specs.declared.operations.Mode.{Mode}
 use Rattle.pei_types.specs.Blocks.{same_pei}
 use Rattle.pei_types.specs.Claims.{no_claims}
-use Rattle.pei_types.specs.Coherence.{State, state_after, next_state, is_phase, fence_of, look_of}
+use Rattle.pei_types.specs.MachineState.{State, state_after, next_state, is_phase, fence_of, look_of}
 use Rattle.pei_types.specs.Core.{CoreState, next_of_core, after_answer, Wait, wait_at, core_config}
 use Rattle.pei_types.specs.Program.{Listing, Contents}
 use Rattle.pei_types.specs.Schedule.{Run, LaneClaim, Free, Held, Spent, actors, with_lane_event, after_leave}
 use Rattle.coherence_laws.specs.Sets.{Each}
-use Rattle.history_laws.specs.Holding.{claim_at}
+use Rattle.history_laws.specs.Holders.{claim_at}
 use Rattle.progress_laws.specs.Measure.{core_0, core_now, core_left, fence_left, next_left, lane_at, lane_ahead, stalls_until, phase_left, life_left, lives_left, release_left, turns_left}
 use Rattle.progress_laws.specs.Serial.{SerialRun, HasNotEntered, OneWorks, ClaimsFirst, waiting_for, WaitsAct, FenceWaits, OwnsRead, is_to_act}
 use Rattle.progress_laws.proofs.Places.{acting, with_claim_of, claim-other}

@@ -8,7 +8,7 @@ use Rattle.pei_types.specs.declared.operations.Mode.TheVariants as mode
 use Rattle.pei_types.specs.declared.operations.Op.{Op}
 use Rattle.pei_types.specs.Blocks.{entry_of}
 use Rattle.pei_types.specs.Claims.{Claims, no_claims, with_announcement, is_granted, with_claim, without_claim}
-use Rattle.pei_types.specs.Coherence.{State, state_after}
+use Rattle.pei_types.specs.MachineState.{State, state_after}
 use Rattle.pei_types.specs.Operation.{is_writer, mode_of}
 use Rattle.pei_types.specs.Program.{Listing, Contents}
 use Rattle.pei_types.specs.Recency.{change_at}
@@ -16,7 +16,7 @@ use Rattle.pei_types.specs.Schedule.{Run, LaneClaim, Free, Announced, Held, Spen
 use Rattle.pei_types.proofs.Lists.{each_weaker, each_both}
 use Rattle.coherence_laws.specs.Sets.{Each}
 use Rattle.coherence_laws.specs.Invariants.{Invariants}
-use Rattle.history_laws.specs.Holding.{claim_at, holds_entry}
+use Rattle.history_laws.specs.Holders.{claim_at, holds_entry}
 use Rattle.progress_laws.specs.Measure.{lane_at, enter_left, life_left, lives_left, release_left}
 use Rattle.progress_laws.specs.Serial.{SerialRun, HasNotEntered, ClaimsFirst, waiting_for}
 use Rattle.progress_laws.proofs.Places.{acting, with_claim_of, claim-changed, claim-other}

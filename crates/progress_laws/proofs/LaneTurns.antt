@@ -16,7 +16,7 @@ use Rattle.pei_types.specs.declared.machines.MachineSpec.{MachineSpec}
 use Rattle.pei_types.specs.declared.operations.Mode.{Mode}
 use Rattle.pei_types.specs.declared.operations.Mode.TheVariants as mode
 use Rattle.pei_types.specs.Blocks.{block_of, entry_of, vault_of, same_pei, same_core, same_lane, tag_of, llc_set_of}
-use Rattle.pei_types.specs.Coherence.{State, state_after, is_phase, look_in, queue_of, queue_is_full, conflict}
+use Rattle.pei_types.specs.MachineState.{State, state_after, is_phase, look_in, queue_of, queue_is_full, conflict}
 use Rattle.pei_types.specs.Core.{CoreNext, Calls, Busy, Ended, next_of_core}
 use Rattle.pei_types.specs.FlatMemory.{flat_block}
 use Rattle.pei_types.specs.Monitor.{placement}
@@ -30,7 +30,7 @@ use Rattle.pei_types.proofs.Lists.{found_has, each_both}
 use Rattle.pei_types.proofs.Tests.{same_self}
 use Rattle.coherence_laws.specs.Sets.{Each}
 use Rattle.coherence_laws.specs.Invariants.{Invariants, is_sealed_in}
-use Rattle.history_laws.specs.Holding.{claim_at}
+use Rattle.history_laws.specs.Holders.{claim_at}
 use Rattle.progress_laws.specs.Measure.{core_0, lane_at, lane_ahead, access_left, calls_left, next_left, phase_left}
 use Rattle.progress_laws.specs.Serial.{SerialRun, HasNotEntered, OneWorks, ClaimsFirst, OwnsRead}
 use Rattle.progress_laws.proofs.After.{After, stall_after}

@@ -13,7 +13,7 @@ use Rattle.pei_types.specs.declared.inflight_looks.PeiLook.{PeiLook}
 use Rattle.pei_types.specs.declared.events.EventKind.TheVariants as event
 use Rattle.pei_types.specs.declared.machines.MachineSpec.{MachineSpec}
 use Rattle.pei_types.specs.Blocks.{same_core, l1_set_of, llc_set_of, vault_of}
-use Rattle.pei_types.specs.Coherence.{State, Line, LlcLine, next_state, letter_in, mark_in, letter_of, mark_of, is_i, is_ahead, is_owned, is_absent, is_clean, is_dirty, l1_set, llc_set, is_line_of, is_llc_line_of, cores_of, no_other_has, is_sealed, without_l1_line, with_llc_mark, with_llc_line, without_llc_line, after_taking_back, after_invalidating, after_downgrading, after_granting, with_l1_shared}
+use Rattle.pei_types.specs.MachineState.{State, Line, LlcLine, next_state, letter_in, mark_in, letter_of, mark_of, is_i, is_ahead, is_owned, is_absent, is_clean, is_dirty, l1_set, llc_set, is_line_of, is_llc_line_of, cores_of, no_other_has, is_sealed, without_l1_line, with_llc_mark, with_llc_line, without_llc_line, after_taking_back, after_invalidating, after_downgrading, after_granting, with_l1_shared}
 use Rattle.pei_types.specs.Next.{holder, owner, evict, bring_in, grant_shared, grant_modify, grant, make_room, l1_victim, want, seal_writer, seal_reader}
 use Rattle.pei_types.specs.Operation.{is_writer}
 use Rattle.pei_types.specs.Recency.{change_at, list_at, without, victim}

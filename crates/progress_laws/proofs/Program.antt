@@ -9,7 +9,7 @@ use Rattle.pei_types.specs.declared.inflight_looks.PeiLook.{PeiLook}
 use Rattle.pei_types.specs.declared.machines.MachineSpec.{MachineSpec}
 use Rattle.pei_types.specs.Calls.{Messages, side_of}
 use Rattle.pei_types.specs.Claims.{no_claims}
-use Rattle.pei_types.specs.Coherence.{State, state_after, next_state, fence_of, letter_of, conflict}
+use Rattle.pei_types.specs.MachineState.{State, state_after, next_state, fence_of, letter_of, conflict}
 use Rattle.pei_types.specs.Core.{CoreState, Calls, next_of_core, after_answer, core_step, next_of_step, core_config}
 use Rattle.pei_types.specs.Next.{want}
 use Rattle.pei_types.specs.Operation.{is_writer}
@@ -18,7 +18,7 @@ use Rattle.pei_types.specs.Schedule.{Run, LaneClaim, Free, Announced, Held, Spen
 use Rattle.pei_types.proofs.Lists.{each_weaker, each_both}
 use Rattle.coherence_laws.specs.Sets.{Each}
 use Rattle.coherence_laws.specs.Invariants.{Invariants}
-use Rattle.history_laws.specs.Holding.{claim_at}
+use Rattle.history_laws.specs.Holders.{claim_at}
 use Rattle.progress_laws.specs.Distance.{serves, want_left}
 use Rattle.progress_laws.specs.Measure.{core_0, core_now, core_left, end_left, fence_left, access_left, call_left, calls_left, next_left, lane_at, lane_ahead, stalls_until, enter_left, lives_left, release_left, turns_left}
 use Rattle.progress_laws.specs.Serial.{SerialRun, HasNotEntered, OneWorks, ClaimsFirst, waiting_for, WaitsAct, FenceWaits, OwnsRead}

@@ -19,7 +19,7 @@ use Rattle.pei_types.specs.declared.machines.MachineSpec.{MachineSpec}
 use Rattle.pei_types.specs.declared.operations.Op.{Op}
 use Rattle.pei_types.specs.declared.operations.Operands.{Operands}
 use Rattle.pei_types.specs.Blocks.{block_of, word_of, same_pei, same_core}
-use Rattle.pei_types.specs.Coherence.{State, state_after, next_state, fence_of, letter_of, is_i, is_owned, conflict, free_lane, lanes_of, look_in, first_unfinished, unfinished_writers}
+use Rattle.pei_types.specs.MachineState.{State, state_after, next_state, fence_of, letter_of, is_i, is_owned, conflict, free_lane, lanes_of, look_in, first_unfinished, unfinished_writers}
 use Rattle.pei_types.specs.Core.{CoreState, CoreNext, Calls, Busy, Ended, next_of_core, after_answer, Wait, wait_at, with_waits, with_waits_at, reply_registers, core_config}
 use Rattle.pei_types.specs.FlatMemory.{flat_block}
 use Rattle.pei_types.specs.Next.{call_row, race_or, want, issue_row, fence_row, draining_or}

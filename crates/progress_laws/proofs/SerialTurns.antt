@@ -8,13 +8,13 @@ use Rattle.pei_types.specs.declared.machines.MachineSpec.{MachineSpec}
 use Rattle.pei_types.specs.Calls.{is_actor_of}
 use Rattle.pei_types.specs.Ends.{all_ended}
 use Rattle.pei_types.specs.Claims.{no_claims}
-use Rattle.pei_types.specs.Coherence.{state_after, start_state, fence_of}
+use Rattle.pei_types.specs.MachineState.{state_after, start_state, fence_of}
 use Rattle.pei_types.specs.Core.{CoreState, core_at_start, Wait, wait_at, next_of_core, core_config}
 use Rattle.pei_types.specs.Program.{Listing, Contents}
 use Rattle.pei_types.specs.Recency.{list_at}
 use Rattle.pei_types.specs.Schedule.{Run, Free, run_at_start, turn, step_of_lane, next_actor, serial, whole_table, actors}
 use Rattle.coherence_laws.specs.Invariants.{Invariants}
-use Rattle.history_laws.specs.Holding.{claim_at}
+use Rattle.history_laws.specs.Holders.{claim_at}
 use Rattle.history_laws.specs.Runs.{WholeRun}
 use Rattle.machine_laws.specs.Laws.{WholeRunsAreLegal}
 use Rattle.progress_laws.specs.Laws.{TurnsFall}

@@ -16,7 +16,7 @@ use Rattle.pei_types.specs.declared.events.EventKind.TheVariants as event
 use Rattle.pei_types.specs.declared.machines.MachineSpec.{MachineSpec}
 use Rattle.pei_types.specs.Blocks.{l1_set_of}
 use Rattle.pei_types.specs.Calls.{Messages, side_of}
-use Rattle.pei_types.specs.Coherence.{State, Line, LlcLine, next_state, letter_in, letter_of, mark_of, is_ahead, is_absent, is_dirty, is_line_of, l1_set, llc_set, no_other_has, is_sealed, with_llc_mark, with_l1_touch, after_taking_back, after_placing, after_reading, after_acting, after_acting_in, with_l1_front}
+use Rattle.pei_types.specs.MachineState.{State, Line, LlcLine, next_state, letter_in, letter_of, mark_of, is_ahead, is_absent, is_dirty, is_line_of, l1_set, llc_set, no_other_has, is_sealed, with_llc_mark, with_l1_touch, after_taking_back, after_placing, after_reading, after_acting, after_acting_in, with_l1_front}
 use Rattle.pei_types.specs.Next.{holder, other_holder, other_owner, evict, bring_in, grant_shared, grant_modify, grant, make_room, l1_victim, want}
 use Rattle.pei_types.specs.Operation.{is_writer}
 use Rattle.pei_types.specs.Recency.{change_at, list_at, without, to_front, victim}

@@ -7,7 +7,7 @@ use Rattle.pei_types.specs.declared.operations.Mode.TheVariants as mode
 use Rattle.pei_types.specs.declared.inflight_looks.PeiLook.{PeiLook}
 use Rattle.pei_types.specs.declared.inflight_looks.StallCause.TheVariants as stall
 use Rattle.pei_types.specs.Claims.{is_granted, with_claim}
-use Rattle.pei_types.specs.Coherence.{state_after, look_in}
+use Rattle.pei_types.specs.MachineState.{state_after, look_in}
 use Rattle.pei_types.specs.Core.{CoreNext, Calls, Busy, Ended, next_of_core}
 use Rattle.pei_types.specs.Blocks.{entry_of}
 use Rattle.pei_types.specs.Operation.{mode_of}

@@ -11,12 +11,12 @@ use Rattle.pei_types.specs.declared.inflight_looks.Phase.TheVariants as phase
 use Rattle.pei_types.specs.declared.events.Event.{Event}
 use Rattle.pei_types.specs.declared.machines.MachineSpec.{MachineSpec}
 use Rattle.pei_types.specs.Blocks.{block_of}
-use Rattle.pei_types.specs.Coherence.{State, state_after, conflict, fence_of}
+use Rattle.pei_types.specs.MachineState.{State, state_after, conflict, fence_of}
 use Rattle.pei_types.specs.Core.{CoreState, CoreNext, Calls, core_after, core_at_start, at_stop, events_of, next_of_core, core_config}
 use Rattle.pei_types.specs.Operation.{is_writer}
 use Rattle.pei_types.specs.Program.{Listing, Contents}
 use Rattle.pei_types.specs.Schedule.{Run, LaneClaim, Announced, Held, Spent, actors}
-use Rattle.history_laws.specs.Holding.{claim_at}
+use Rattle.history_laws.specs.Holders.{claim_at}
 use Rattle.progress_laws.specs.Distance.{want_left, seal_left}
 
 -- the only core

@@ -7,14 +7,14 @@ use Rattle.pei_types.specs.declared.inflight_looks.Phase.TheVariants as phase
 use Rattle.pei_types.specs.declared.machines.MachineSpec.{MachineSpec}
 use Rattle.pei_types.specs.Blocks.{entry_of, same_pei}
 use Rattle.pei_types.specs.Claims.{no_claims}
-use Rattle.pei_types.specs.Coherence.{State, state_after, is_phase, fence_of}
+use Rattle.pei_types.specs.MachineState.{State, state_after, is_phase, fence_of}
 use Rattle.pei_types.specs.Core.{Wait, wait_at}
 use Rattle.pei_types.specs.Next.{may_act}
 use Rattle.pei_types.specs.Operation.{is_writer}
 use Rattle.pei_types.specs.Program.{Listing, Contents}
 use Rattle.pei_types.specs.Schedule.{Run, LaneClaim, Free, Announced, Held, Spent, scheduled_run, serial, whole_table}
 use Rattle.coherence_laws.specs.Sets.{Each}
-use Rattle.history_laws.specs.Holding.{claim_at}
+use Rattle.history_laws.specs.Holders.{claim_at}
 use Rattle.history_laws.specs.Runs.{WholeRun}
 use Rattle.progress_laws.specs.Measure.{lane_at, core_0, core_now}
 

@@ -9,7 +9,7 @@ use Rattle.pei_types.specs.declared.calls.EndKind.{EndKind}
 use Rattle.pei_types.specs.declared.events.Event.{Event}
 use Rattle.pei_types.specs.declared.machines.MachineSpec.{MachineSpec}
 use Rattle.pei_types.specs.Blocks.{same_core}
-use Rattle.pei_types.specs.Coherence.{cores_of}
+use Rattle.pei_types.specs.MachineState.{cores_of}
 use Rattle.pei_types.specs.Core.{events_of}
 use Rattle.pei_types.specs.Ends.{end_of, ends_of, output_in, outputs_of}
 use Rattle.pei_types.specs.Texts.{line, how_ended, core_lines, output_lines, addresses}

@@ -7,7 +7,7 @@ use Rattle.pei_types.specs.declared.instructions.Ask.{Ask}
 use Rattle.pei_types.specs.declared.instructions.Ask.TheVariants as ask
 use Rattle.pei_types.specs.declared.events.Event.{Event}
 use Rattle.pei_types.specs.declared.machines.MachineSpec.{MachineSpec}
-use Rattle.pei_types.specs.Coherence.{cores_of}
+use Rattle.pei_types.specs.MachineState.{cores_of}
 use Rattle.pei_types.specs.Ends.{outputs_of, status_of}
 use Rattle.pei_types.specs.Program.{Listing}
 use Rattle.pei_types.specs.Texts.{line, spaced, how_ended, output_lines, core_lines, addresses, stat_lines}

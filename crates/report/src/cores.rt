@@ -2,7 +2,7 @@
 
 ghost use Rattle.std.specs.Prelude.{◌≡◌, ◌++◌, [], ◌∷◌, codes, decimal, flat_map};
 ghost use Rattle.pei_io.specs.Outside.{Writes};
-ghost use Rattle.pei_types.specs.Coherence.{cores_of};
+ghost use Rattle.pei_types.specs.MachineState.{cores_of};
 ghost use Rattle.pei_types.specs.Ends.{ends_of};
 ghost use Rattle.pei_types.specs.Texts.{line, how_ended, core_lines};
 ghost use Rattle.report.specs.Shown.{output_lines_of};

@@ -3,7 +3,7 @@ use Rattle.std.proofs.Common.{◌≡◌, ℕ, zero, suc, List, [], ◌∷◌, ge
 use Rattle.pei_types.specs.declared.identifiers.Actor.{Actor}
 use Rattle.pei_types.specs.Claims.{Claims, no_claims}
 use Rattle.pei_types.specs.Recency.{change_at}
-use Rattle.sched_run.specs.Claiming.{entry_in, stepped, with_claim_at}
+use Rattle.sched_run.specs.LaneClaims.{entry_in, stepped, with_claim_at}
 use Rattle.sched_run.specs.declared.claims.Desk.{Desk}
 use Rattle.sched_run.specs.declared.claims.LaneClaim.{LaneClaim as Claim}
 use Rattle.sched_run.specs.declared.claims.OwnClaims.{OwnClaims}

@@ -18,16 +18,16 @@ use Rattle.pei_types.specs.declared.inflight_looks.StallCause.TheVariants as sta
 use Rattle.pei_types.specs.declared.machines.MachineSpec.{MachineSpec}
 use Rattle.pei_types.specs.declared.operations.Mode.{Mode}
 use Rattle.pei_types.specs.Blocks.{entry_of, same_core, same_lane, same_pei, vault_of}
-use Rattle.pei_types.specs.Coherence.{State, first_unentered, is_phase, look_in, queue_is_full, queue_of}
+use Rattle.pei_types.specs.MachineState.{State, first_unentered, is_phase, look_in, queue_is_full, queue_of}
 use Rattle.pei_types.specs.Guard.{is_pei}
 use Rattle.pei_types.specs.Next.{Turn as Row, Makes, Stalls, act_kind, enter_row, head_row, lane_row, pei_row, seal_row}
 use Rattle.pei_types.specs.Operation.{mode_of}
 use Rattle.fabric.specs.History.{History, content_of, lane_row_of, needs_of, state_of}
 use Rattle.fabric.specs.Needs.{entry_needed}
-use Rattle.fabric.specs.Turning.{answer_of, turn_of}
+use Rattle.fabric.specs.Turns.{answer_of, turn_of}
 use Rattle.fabric.specs.declared.turns.Turn.{Turn}
 use Rattle.fabric.specs.declared.turns.Turn.TheVariants as turns
-use Rattle.sched_run.specs.Turning.{IsUnspent, waits_for_grant}
+use Rattle.sched_run.specs.Steps.{IsUnspent, waits_for_grant}
 use Rattle.sched_run.specs.declared.claims.LaneClaim.{LaneClaim as Claim}
 use Rattle.sched_run.specs.declared.claims.LaneClaim.TheVariants as claim
 use Rattle.pei_types.proofs.Identities.{look_core}

@@ -6,22 +6,22 @@ use Rattle.pei_types.specs.declared.events.EventKind.{EventKind}
 use Rattle.pei_types.specs.declared.events.EventKind.TheVariants as event
 use Rattle.pei_types.specs.declared.machines.MachineSpec.{MachineSpec}
 use Rattle.pei_types.specs.Calls.{BelongsTo, Programs, Side, is_actor_of, side_of}
-use Rattle.pei_types.specs.Coherence.{look_in}
+use Rattle.pei_types.specs.MachineState.{look_in}
 use Rattle.pei_types.specs.Core.{next_of_core}
 use Rattle.pei_types.specs.Ends.{end_in, ends_of}
 use Rattle.pei_types.specs.Legal.{Legal, Meets}
 use Rattle.pei_types.specs.Program.{Listing, Contents}
 use Rattle.pei_types.specs.Schedule.{Run, peis_step, step_of_lane, turn, whole_table}
-use Rattle.core_exec.specs.Standing.{retires}
+use Rattle.core_exec.specs.CoreView.{retires}
 use Rattle.fabric.specs.History.{History, state_of}
 use Rattle.sched_run.specs.EndsAfter.{with_end}
-use Rattle.sched_run.specs.Tracking.{IsRunning, run_in}
-use Rattle.sched_run.specs.Turning.{GoesOn, IsOwn, made_in, run_at, waited, with_made}
-use Rattle.sched_run.specs.declared.actors.Step.{Step}
-use Rattle.sched_run.specs.declared.actors.Step.TheVariants as step
+use Rattle.sched_run.specs.DefinedRun.{IsRunning, run_in}
+use Rattle.sched_run.specs.Steps.{GoesOn, IsOwn, made_in, run_at, waited, with_made}
+use Rattle.sched_run.specs.declared.turns.Step.{Step}
+use Rattle.sched_run.specs.declared.turns.Step.TheVariants as step
 use Rattle.sched_run.specs.declared.claims.Desk.{Desk}
 use Rattle.sched_run.specs.declared.running.Running.{Running}
-use Rattle.sched_run.proofs.Turns.{LawsUsed, ends_event}
+use Rattle.sched_run.proofs.ActorTurns.{LawsUsed, ends_event}
 use Rattle.pei_types.proofs.Histories.{each_last}
 
 lane_step_of : (l : ℕ) (p : Listing) (m : MachineSpec) (image : Contents) (r : Run) (a : Actor) (h : History) → 0 < l → h ≡ record { machine = m; image = image; journal = r.journal } → step_of_lane l (whole_table m image) p m image r a ≡ peis_step (whole_table m image) m r a (look_in (state_of h) a.core a.lane)

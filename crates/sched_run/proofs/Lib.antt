@@ -6,6 +6,6 @@ mod Played
 mod Stepped
 mod Granting
 mod Started
-mod Turns
+mod ActorTurns
 mod Ready
 mod LaneTurns

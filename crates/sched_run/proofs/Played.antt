@@ -18,10 +18,10 @@ use Rattle.pei_types.specs.Program.{Listing, Contents}
 use Rattle.pei_types.specs.Schedule.{Run, run_at_start, whole_table, turn, next_actor}
 use Rattle.history_laws.specs.Laws.{PoliciesChooseActors}
 use Rattle.history_laws.specs.Sound.{ChoosesActors}
-use Rattle.sched_run.specs.Choosing.{policy_of, HasActorsOf}
+use Rattle.sched_run.specs.Choice.{policy_of, HasActorsOf}
 use Rattle.sched_run.specs.ElevenClauses.{ElevenClauses}
 use Rattle.sched_run.specs.Scheduled.{EndsInTime, IsAfter, IsEndOf, run_of}
-use Rattle.sched_run.specs.Tracking.{IsRunning, is_over, run_in}
+use Rattle.sched_run.specs.DefinedRun.{IsRunning, is_over, run_in}
 use Rattle.sched_run.specs.declared.policies.Policy.{Policy as Chosen}
 use Rattle.sched_run.specs.declared.policies.Policy.TheVariants as chosen
 use Rattle.sched_run.specs.declared.running.Running.{Running}

@@ -10,20 +10,20 @@ use Rattle.pei_types.specs.declared.operations.Mode.{Mode}
 use Rattle.pei_types.specs.declared.operations.Mode.TheVariants as mode
 use Rattle.pei_types.specs.Blocks.{entry_of}
 use Rattle.pei_types.specs.Claims.{Claims, no_claims}
-use Rattle.pei_types.specs.Coherence.{first_unentered, look_in}
+use Rattle.pei_types.specs.MachineState.{first_unentered, look_in}
 use Rattle.pei_types.specs.Next.{Stalls}
 use Rattle.pei_types.specs.Operation.{mode_of}
 use Rattle.pei_types.specs.Program.{Listing}
 use Rattle.pei_types.specs.Schedule.{Spent}
 use Rattle.pei_types.proofs.Groups.{entry_below}
 use Rattle.fabric.specs.History.{IsEntryFree, lane_row_of, needs_of, state_of}
-use Rattle.history_laws.specs.Holding.{Holding, claim_at, counted, holds_entry, same_mode, waits_on}
+use Rattle.history_laws.specs.Holders.{Holding, claim_at, counted, holds_entry, same_mode, waits_on}
 use Rattle.history_laws.specs.Laws.{HoldingTells, WholeRunsAreLegal}
 use Rattle.inflight.specs.OnTheWay.{IsLaneOf}
 use Rattle.pim_directory.specs.Words.{IsHeld, IsReady}
-use Rattle.sched_run.specs.Claiming.{claim_in, claims_of, seen_claim}
-use Rattle.sched_run.specs.Tracking.{IsRunning}
-use Rattle.sched_run.specs.Turning.{Entry, IsReadyFor}
+use Rattle.sched_run.specs.LaneClaims.{claim_in, claims_of, seen_claim}
+use Rattle.sched_run.specs.DefinedRun.{IsRunning}
+use Rattle.sched_run.specs.Steps.{Entry, IsReadyFor}
 use Rattle.sched_run.specs.declared.claims.LaneClaim.{LaneClaim as Claim}
 use Rattle.sched_run.specs.declared.claims.LaneClaim.TheVariants as claim
 use Rattle.sched_run.specs.declared.running.Running.{Running}

@@ -5,11 +5,11 @@ use Rattle.pei_types.specs.Claims.{no_claims}
 use Rattle.pei_types.specs.Core.{core_config, at_stop, core_at_start}
 use Rattle.pei_types.specs.Program.{Listing, Contents}
 use Rattle.pei_types.specs.Schedule.{Free, LaneClaim, Run, run_at_start}
-use Rattle.core_exec.specs.Standing.{Standing}
+use Rattle.core_exec.specs.CoreView.{Standing}
 use Rattle.fabric.specs.History.{History}
 use Rattle.history_laws.specs.Runs.{WholeRun}
-use Rattle.sched_run.specs.Claiming.{claims_of, none_held, seen_claim}
-use Rattle.sched_run.specs.Tracking.{IsRunning, run_in}
+use Rattle.sched_run.specs.LaneClaims.{claims_of, none_held, seen_claim}
+use Rattle.sched_run.specs.DefinedRun.{IsRunning, run_in}
 use Rattle.sched_run.specs.declared.claims.Desk.{Desk}
 use Rattle.sched_run.specs.declared.claims.LaneClaim.TheVariants as claim
 use Rattle.sched_run.specs.declared.running.Running.{Running}

@@ -13,7 +13,7 @@ use Rattle.pei_types.specs.declared.operations.Mode.{Mode}
 use Rattle.pei_types.specs.declared.operations.Mode.TheVariants as mode
 use Rattle.pei_types.specs.Blocks.{entry_of}
 use Rattle.pei_types.specs.Claims.{Claims, with_announcement, with_claim, without_claim}
-use Rattle.pei_types.specs.Coherence.{first_unentered, look_in}
+use Rattle.pei_types.specs.MachineState.{first_unentered, look_in}
 use Rattle.pei_types.specs.Guard.{is_pei}
 use Rattle.pei_types.specs.Next.{Turn as Row, Makes, Stalls, lane_row}
 use Rattle.pei_types.specs.Operation.{mode_of}
@@ -22,10 +22,10 @@ use Rattle.pei_types.specs.Schedule.{Run, Table, LaneClaim, Free, Announced, Hel
 use Rattle.fabric.specs.History.{History, content_of, lane_row_of, needs_of, state_of}
 use Rattle.fabric.specs.Needs.{entry_needed}
 use Rattle.inflight.specs.OnTheWay.{IsLaneOf}
-use Rattle.sched_run.specs.Claiming.{claim_after, claim_in, claims_of, none_held, seen_claim, stepped, with_claim_at}
-use Rattle.sched_run.specs.Turning.{Enters, GoesOn, IsOwn, IsUnspent, Took, Tries, made_in, run_at, waited, with_made}
-use Rattle.sched_run.specs.declared.actors.Step.{Step}
-use Rattle.sched_run.specs.declared.actors.Step.TheVariants as step
+use Rattle.sched_run.specs.LaneClaims.{claim_after, claim_in, claims_of, none_held, seen_claim, stepped, with_claim_at}
+use Rattle.sched_run.specs.Steps.{Enters, GoesOn, IsOwn, IsUnspent, Took, Tries, made_in, run_at, waited, with_made}
+use Rattle.sched_run.specs.declared.turns.Step.{Step}
+use Rattle.sched_run.specs.declared.turns.Step.TheVariants as step
 use Rattle.sched_run.specs.declared.claims.Desk.{Desk}
 use Rattle.sched_run.specs.declared.claims.LaneClaim.{LaneClaim as Claim}
 use Rattle.sched_run.specs.declared.claims.LaneClaim.TheVariants as claim

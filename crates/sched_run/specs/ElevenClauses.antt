@@ -3,7 +3,7 @@ use Rattle.std.specs.Prelude.{IsTrue, List}
 use Rattle.pei_types.specs.declared.events.Event.{Event}
 use Rattle.pei_types.specs.declared.machines.MachineSpec.{MachineSpec}
 use Rattle.pei_types.specs.Calls.{AnswersCall}
-use Rattle.pei_types.specs.Coherence.{next_state, state_after}
+use Rattle.pei_types.specs.MachineState.{next_state, state_after}
 use Rattle.pei_types.specs.Core.{next_of_core}
 use Rattle.pei_types.specs.Exclusion.{EntersAlone}
 use Rattle.pei_types.specs.Fence.{FencesEarlier}
@@ -13,7 +13,8 @@ use Rattle.pei_types.specs.Order.{IsInOrder}
 use Rattle.pei_types.specs.Program.{Listing, Contents}
 use Rattle.pei_types.specs.Race.{RacesRightly}
 use Rattle.pei_types.specs.Replies.{RepliesRightly}
-use Rattle.pei_types.specs.Turns.{EvictsLast, IsNextOf, PlacesByMonitor, SealsHold}
+use Rattle.pei_types.specs.StateClauses.{EvictsLast, PlacesByMonitor, SealsHold}
+use Rattle.pei_types.specs.Turns.{IsNextOf}
 
 -- Loads and PEIs answer what flat memory holds. Each event answers its core's call, or is its PEI's next. Accesses and
 -- acts of a core come in its order. A PEI enters beside none that conflicts on its directory entry. A fence ends behind

@@ -1,7 +1,7 @@
-pub mod Claiming
-pub mod Turning
-pub mod Tracking
+pub mod LaneClaims
+pub mod Steps
+pub mod DefinedRun
 pub mod EndsAfter
-pub mod Choosing
+pub mod Choice
 pub mod Scheduled
 pub mod ElevenClauses

@@ -6,7 +6,7 @@ ghost use Rattle.std.specs.List.{list_all};
 ghost use Rattle.pei_types.specs.Calls.{is_actor_of};
 ghost use Rattle.sched_run.specs.EndsAfter.{ends_after};
 
-use crate::actors::{Step, lane_turn, program_turn, take_in};
+use crate::turns::{Step, lane_turn, program_turn, take_in};
 use crate::claims::Desk;
 use core_exec::Core;
 use fabric::Fabric;
@@ -31,7 +31,7 @@ pub(crate) struct Running {
 impl Running {
     ghost use Rattle.pei_types.specs.Program.{Listing};
     ghost use Rattle.pei_types.specs.Schedule.{run_at_start, turn, whole_table};
-    ghost use Rattle.sched_run.specs.Tracking.{IsRunning, is_over, run_in};
+    ghost use Rattle.sched_run.specs.DefinedRun.{IsRunning, is_over, run_in};
 
     /// A run at its start.
     pub fn start(alloc: Global, spec: &MachineSpec, image: &Image) -> Result<Running, OutOfMemory>

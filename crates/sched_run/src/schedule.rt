@@ -3,10 +3,10 @@
 ghost use Rattle.std.specs.Prelude.{◌≡◌, ◌≤◌, ◌*◌, length, IfOk};
 ghost use Rattle.pei_types.specs.Legal.{Legal};
 ghost use Rattle.pei_types.specs.Schedule.{run_at_start};
-ghost use Rattle.sched_run.specs.Choosing.{HasActorsOf};
+ghost use Rattle.sched_run.specs.Choice.{HasActorsOf};
 ghost use Rattle.sched_run.specs.ElevenClauses.{ElevenClauses};
 ghost use Rattle.sched_run.specs.Scheduled.{EndsInTime, IsAfter, IsEndOf, run_of};
-ghost use Rattle.sched_run.specs.Tracking.{IsRunning, run_in};
+ghost use Rattle.sched_run.specs.DefinedRun.{IsRunning, run_in};
 
 use crate::policies::Policy;
 use crate::running::Running;

@@ -6,7 +6,7 @@ ghost use Rattle.pei_types.specs.Calls.{is_actor_of};
 ghost use Rattle.pei_types.specs.Limits.{IsWithin};
 ghost use Rattle.pei_types.specs.Program.{HasRegisters};
 ghost use Rattle.inflight.specs.OnTheWay.{IsLaneOf};
-ghost use Rattle.sched_run.specs.Choosing.{HasActorsOf};
+ghost use Rattle.sched_run.specs.Choice.{HasActorsOf};
 
 use crate::{Actors, Policy, SchedEnd, run_schedule};
 use fabric::{Fabric, Turn};

@@ -12,15 +12,15 @@ use Rattle.pei_types.specs.declared.events.EventKind.{EventKind}
 use Rattle.pei_types.specs.declared.events.EventKind.TheVariants as event
 use Rattle.pei_types.specs.Blocks.{same_core, same_lane, same_pei}
 use Rattle.pei_types.specs.Calls.{FollowsPei, follows_phase, side_of}
-use Rattle.pei_types.specs.Coherence.{State, is_phase, pei_id}
+use Rattle.pei_types.specs.MachineState.{State, is_phase, pei_id}
 use Rattle.pei_types.specs.History.{Pei, issued_peis, pei_of, phase_of, has_left, entered_peis}
 use Rattle.pei_types.specs.Legal.{EachEvent}
 use Rattle.pei_types.specs.Recency.{without}
 use Rattle.pei_types.proofs.Identities.{same_pei_is, same_pei_refl}
 use Rattle.std.proofs.lemmas.Option.{same_Some}
-use Rattle.history_laws.specs.Entering.{LanesApart}
+use Rattle.history_laws.specs.EntryOrder.{LanesApart}
 use Rattle.history_laws.specs.Members.{In}
-use Rattle.history_laws.specs.Tracking.{as_issued, IsTracked}
+use Rattle.history_laws.specs.TrackedPeis.{as_issued, IsTracked}
 use Rattle.shared_table.specs.declared.claims.Active.{Active}
 use Rattle.shared_table.specs.Actives.{ActivesAreEntered, active_pei, active_in}
 use Rattle.shared_table.specs.Diaries.{active_of}

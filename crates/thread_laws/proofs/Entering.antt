@@ -16,7 +16,7 @@ use Rattle.pei_types.specs.declared.events.EventKind.TheVariants as event
 use Rattle.pei_types.specs.declared.machines.MachineSpec.{MachineSpec}
 use Rattle.pei_types.specs.Blocks.{same_core, same_lane, same_pei}
 use Rattle.pei_types.specs.Calls.{FollowsPei, follows_phase, side_of}
-use Rattle.pei_types.specs.Coherence.{State, is_phase, entry_is_taken, pei_id}
+use Rattle.pei_types.specs.MachineState.{State, is_phase, entry_is_taken, pei_id}
 use Rattle.pei_types.specs.Exclusion.{conflicts}
 use Rattle.pei_types.specs.History.{Pei, issued_peis, pei_of, phase_of, is_enter, has_entered, has_left, unfinished_peis, entering, entered_peis}
 use Rattle.pei_types.specs.Legal.{EachEvent}
@@ -24,7 +24,7 @@ use Rattle.pei_types.specs.Recency.{without}
 use Rattle.pei_types.proofs.Identities.{same_lane_is, same_pei_is, same_pei_sym}
 use Rattle.pei_types.proofs.Lists.{each_append, each_weaker, found_passes}
 use Rattle.history_laws.specs.Members.{In}
-use Rattle.history_laws.specs.Tracking.{as_issued, is_past_issue, IsTracked}
+use Rattle.history_laws.specs.TrackedPeis.{as_issued, is_past_issue, IsTracked}
 use Rattle.bank_laws.specs.Across.{enters, leaves}
 use Rattle.shared_table.specs.Orderly.{Continues, FollowsOf}
 use Rattle.thread_laws.specs.Entered.{next_entered}

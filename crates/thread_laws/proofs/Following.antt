@@ -5,12 +5,12 @@ use Rattle.pei_types.specs.declared.inflight_looks.PeiLook.{PeiLook}
 use Rattle.pei_types.specs.declared.identifiers.PeiId.{PeiId}
 use Rattle.pei_types.specs.declared.events.Event.{Event}
 use Rattle.pei_types.specs.declared.machines.MachineSpec.{MachineSpec}
-use Rattle.pei_types.specs.Coherence.{state_after}
+use Rattle.pei_types.specs.MachineState.{state_after}
 use Rattle.pei_types.specs.History.{active_peis, has_entered, has_left, phase_of}
 use Rattle.pei_types.specs.Legal.{EachEvent, EachFrom}
 use Rattle.pei_types.proofs.Histories.{from_of_each}
 use Rattle.pei_types.proofs.Lists.{each_weaker}
-use Rattle.history_laws.specs.Tracking.{as_issued, is_past_issue, IsTracked}
+use Rattle.history_laws.specs.TrackedPeis.{as_issued, is_past_issue, IsTracked}
 use Rattle.bank_laws.specs.Laws.{CoresGoOn}
 use Rattle.bank_laws.specs.Own.{next_peis}
 use Rattle.shared_table.specs.Orderly.{Continues}

@@ -11,16 +11,16 @@ use Rattle.pei_types.specs.declared.inflight_looks.Phase.TheVariants as phase
 use Rattle.pei_types.specs.declared.events.Event.{Event}
 use Rattle.pei_types.specs.declared.machines.MachineSpec.{MachineSpec}
 use Rattle.pei_types.specs.Blocks.{same_core, same_lane, entry_of}
-use Rattle.pei_types.specs.Coherence.{State, state_after, look_in, entry_is_taken, is_phase}
+use Rattle.pei_types.specs.MachineState.{State, state_after, look_in, entry_is_taken, is_phase}
 use Rattle.pei_types.specs.Exclusion.{conflicts}
 use Rattle.pei_types.specs.History.{Pei, entered_peis}
 use Rattle.pei_types.specs.Operation.{is_writer, mode_of}
 use Rattle.pei_types.specs.Program.{Contents}
 use Rattle.pei_types.proofs.Identities.{same_core_is, same_lane_is}
 use Rattle.pei_types.proofs.Tests.{same_self}
-use Rattle.history_laws.specs.Entering.{LanesApart}
+use Rattle.history_laws.specs.EntryOrder.{LanesApart}
 use Rattle.history_laws.specs.Members.{In}
-use Rattle.history_laws.specs.Tracking.{as_issued, is_past_issue}
+use Rattle.history_laws.specs.TrackedPeis.{as_issued, is_past_issue}
 use Rattle.coherence_laws.specs.Holdings.{Holdings}
 use Rattle.coherence_laws.specs.Invariants.{GoTogether}
 use Rattle.coherence_laws.specs.Sets.{EachPair}

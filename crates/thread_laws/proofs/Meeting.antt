@@ -16,7 +16,7 @@ use Rattle.pei_types.specs.declared.events.EventKind.{EventKind}
 use Rattle.pei_types.specs.declared.events.EventKind.TheVariants as event
 use Rattle.pei_types.specs.declared.machines.MachineSpec.{MachineSpec}
 use Rattle.pei_types.specs.Blocks.{same_core, same_lane, same_pei}
-use Rattle.pei_types.specs.Coherence.{state_after, with_phase, look_in, lanes_of, free_lane, fence_of, pei_id}
+use Rattle.pei_types.specs.MachineState.{state_after, with_phase, look_in, lanes_of, free_lane, fence_of, pei_id}
 use Rattle.pei_types.specs.Core.{events_of}
 use Rattle.pei_types.specs.History.{Pei, issued_peis, pei_issued_by, pei_of, begins_fence, ends_fence}
 use Rattle.pei_types.proofs.Identities.{same_pei_is, same_pei_sym}
@@ -24,7 +24,7 @@ use Rattle.pei_types.proofs.Lists.{each_append, each_filter, each_map, each_weak
 use Rattle.pei_types.proofs.Pushes.{issued_peis-push}
 use Rattle.pei_types.proofs.Tests.{none_is, same_self}
 use Rattle.history_laws.specs.Members.{In}
-use Rattle.history_laws.specs.Tracking.{as_issued}
+use Rattle.history_laws.specs.TrackedPeis.{as_issued}
 use Rattle.bank_laws.specs.Banks.{Placed, is_made_in, journal_of, log_of}
 use Rattle.bank_laws.specs.Laws.{BanksKeepApart, BanksMerge, CoresGoOn}
 use Rattle.bank_laws.specs.Own.{new_look, next_peis}

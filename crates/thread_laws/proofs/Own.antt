@@ -14,7 +14,7 @@ use Rattle.pei_types.specs.declared.events.EventKind.{EventKind}
 use Rattle.pei_types.specs.declared.events.EventKind.TheVariants as event
 use Rattle.pei_types.specs.declared.machines.MachineSpec.{MachineSpec}
 use Rattle.pei_types.specs.Blocks.{same_core, same_lane, same_pei}
-use Rattle.pei_types.specs.Coherence.{State, state_after, with_phase, look_in, lanes_of, pei_id}
+use Rattle.pei_types.specs.MachineState.{State, state_after, with_phase, look_in, lanes_of, pei_id}
 use Rattle.pei_types.specs.History.{Pei, issued_peis, pei_issued_by}
 use Rattle.pei_types.specs.Legal.{EachEvent}
 use Rattle.pei_types.specs.Recency.{change_at}
@@ -22,7 +22,7 @@ use Rattle.pei_types.proofs.Identities.{same_core_is, same_lane_is, same_pei_is}
 use Rattle.pei_types.proofs.Lists.{each_append, each_weaker, found_passes}
 use Rattle.pei_types.proofs.Pushes.{issued_peis-push}
 use Rattle.pei_types.proofs.Tests.{none_is, same_self}
-use Rattle.history_laws.specs.Entering.{LanesApart}
+use Rattle.history_laws.specs.EntryOrder.{LanesApart}
 use Rattle.history_laws.specs.Members.{In}
 use Rattle.coherence_laws.specs.Sets.{EachPair}
 use Rattle.bank_laws.specs.Laws.{BanksMerge, CoresGoOn}

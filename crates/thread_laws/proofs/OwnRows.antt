@@ -20,7 +20,7 @@ use Rattle.pei_types.specs.declared.events.EventKind.{EventKind}
 use Rattle.pei_types.specs.declared.events.EventKind.TheVariants as event
 use Rattle.pei_types.specs.declared.machines.MachineSpec.{MachineSpec}
 use Rattle.pei_types.specs.Blocks.{block_of, word_of}
-use Rattle.pei_types.specs.Coherence.{State, state_after, letter_of, is_i, is_owned, conflict, free_lane, look_in}
+use Rattle.pei_types.specs.MachineState.{State, state_after, letter_of, is_i, is_owned, conflict, free_lane, look_in}
 use Rattle.pei_types.specs.Core.{CoreNext, Calls, Busy, Ended, core_next, core_config}
 use Rattle.pei_types.specs.FlatMemory.{flat_block}
 use Rattle.pei_types.specs.Legal.{EachEvent, EachFrom}

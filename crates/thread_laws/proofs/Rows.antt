@@ -21,7 +21,7 @@ use Rattle.pei_types.specs.declared.events.EventKind.TheVariants as event
 use Rattle.pei_types.specs.declared.machines.MachineSpec.{MachineSpec}
 use Rattle.pei_types.specs.Blocks.{block_of, word_of, same_core, same_lane, same_pei, vault_of}
 use Rattle.pei_types.specs.Calls.{Side, Programs, Peis, Messages, follows_phase, side_of}
-use Rattle.pei_types.specs.Coherence.{State, Line, LlcLine, letter_of, mark_of, is_i, is_owned, is_absent, is_dirty, is_clean, conflict, is_sealed, queue_of, queue_is_full, llc_set, no_other_has, look_in, pei_id, state_after}
+use Rattle.pei_types.specs.MachineState.{State, Line, LlcLine, letter_of, mark_of, is_i, is_owned, is_absent, is_dirty, is_clean, conflict, is_sealed, queue_of, queue_is_full, llc_set, no_other_has, look_in, pei_id, state_after}
 use Rattle.pei_types.specs.Core.{CoreNext, Calls, Busy, Ended}
 use Rattle.pei_types.specs.FlatMemory.{flat_block}
 use Rattle.pei_types.specs.Guard.{letter_serves}
@@ -32,7 +32,7 @@ use Rattle.pei_types.specs.Program.{Contents}
 use Rattle.pei_types.specs.Recency.{victim}
 use Rattle.pei_types.specs.Turns.{is_entering}
 use Rattle.pei_types.proofs.Identities.{same_core_is}
-use Rattle.history_laws.specs.Tracking.{IsTracked}
+use Rattle.history_laws.specs.TrackedPeis.{IsTracked}
 use Rattle.bank_laws.specs.Kept.{FitsInBank}
 use Rattle.bank_laws.specs.Rows.{IsRowOfBank, program_turn_in, pei_turn_in, turn_in}
 use Rattle.shared_table.specs.Orderly.{FollowsOf, Follows, IsFresh}

@@ -22,7 +22,7 @@ use Rattle.pei_types.specs.declared.events.EventKind.{EventKind}
 use Rattle.pei_types.specs.declared.events.EventKind.TheVariants as event
 use Rattle.pei_types.specs.declared.machines.MachineSpec.{MachineSpec}
 use Rattle.pei_types.specs.Blocks.{same_core, same_lane, same_pei}
-use Rattle.pei_types.specs.Coherence.{State, state_after, free_lane, look_in, pei_id}
+use Rattle.pei_types.specs.MachineState.{State, state_after, free_lane, look_in, pei_id}
 use Rattle.pei_types.specs.Core.{CoreNext, Calls, Busy, Ended, core_next, core_config, events_of}
 use Rattle.pei_types.specs.FlatMemory.{flat_block}
 use Rattle.pei_types.specs.History.{Pei, issued_peis}
@@ -33,7 +33,7 @@ use Rattle.pei_types.specs.Turns.{is_entering}
 use Rattle.pei_types.proofs.Histories.{each_of_from, each_push}
 use Rattle.pei_types.proofs.Identities.{same_core_is, same_pei_sym}
 use Rattle.history_laws.specs.Members.{In}
-use Rattle.history_laws.specs.Tracking.{as_issued}
+use Rattle.history_laws.specs.TrackedPeis.{as_issued}
 use Rattle.coherence_laws.specs.Holdings.{Holdings}
 use Rattle.coherence_laws.specs.Invariants.{HasSets}
 use Rattle.bank_laws.specs.Banks.{HasBanks, Placed, EachPlaced, Stands, StandsRightly, IsPeiOf, bank_of, is_made_in, journal_of, log_of}

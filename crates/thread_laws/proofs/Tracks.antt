@@ -22,13 +22,13 @@ use Rattle.pei_types.specs.declared.events.EventKind.{EventKind}
 use Rattle.pei_types.specs.declared.events.EventKind.TheVariants as event
 use Rattle.pei_types.specs.Blocks.{same_core, same_lane, same_pei}
 use Rattle.pei_types.specs.Calls.{FollowsPei, follows_phase, side_of}
-use Rattle.pei_types.specs.Coherence.{is_phase, with_phase, pei_id}
+use Rattle.pei_types.specs.MachineState.{is_phase, with_phase, pei_id}
 use Rattle.pei_types.specs.History.{Pei, issued_peis, pei_issued_by, pei_of, phase_of, phase_after, is_about, seq_named, is_number, is_enter, is_act, is_leave, has_entered, has_acted, has_left, unfinished_peis}
 use Rattle.pei_types.specs.Recency.{without}
 use Rattle.pei_types.proofs.Identities.{same_pei_refl, same_pei_is, same_pei_sym}
 use Rattle.pei_types.proofs.Lists.{each_map, each_weaker, each_append}
 use Rattle.pei_types.proofs.Tests.{same_self}
-use Rattle.history_laws.specs.Tracking.{as_issued, IsTracked}
+use Rattle.history_laws.specs.TrackedPeis.{as_issued, IsTracked}
 use Rattle.bank_laws.specs.Across.{enters, leaves}
 use Rattle.bank_laws.specs.Own.{new_look, next_peis}
 use Rattle.shared_table.specs.Orderly.{FollowsOf, IsFresh}

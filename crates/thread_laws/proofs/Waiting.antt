@@ -12,7 +12,7 @@ use Rattle.pei_types.specs.History.{Pei, issued_peis, pei_issued_by, has_left, u
 use Rattle.pei_types.specs.Operation.{is_writer}
 use Rattle.pei_types.proofs.Lists.{all_true, each_weaker, true_all}
 use Rattle.history_laws.specs.Members.{In}
-use Rattle.history_laws.specs.Tracking.{as_issued}
+use Rattle.history_laws.specs.TrackedPeis.{as_issued}
 use Rattle.bank_laws.specs.Across.{leaves}
 use Rattle.shared_table.specs.Claims.{earlier_left}
 use Rattle.shared_table.specs.Journal.{events}

@@ -7,7 +7,7 @@ use Rattle.pei_types.specs.declared.events.Event.{Event}
 use Rattle.pei_types.specs.declared.events.EventKind.{EventKind}
 use Rattle.pei_types.specs.declared.events.EventKind.TheVariants as event
 use Rattle.pei_types.specs.Blocks.{same_pei}
-use Rattle.pei_types.specs.Coherence.{pei_id}
+use Rattle.pei_types.specs.MachineState.{pei_id}
 use Rattle.pei_types.specs.History.{Pei, pei_of}
 use Rattle.pei_types.specs.Recency.{without}
 

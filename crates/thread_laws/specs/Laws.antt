@@ -10,7 +10,7 @@ use Rattle.pei_types.specs.declared.events.Event.{Event}
 use Rattle.pei_types.specs.declared.events.EventKind.TheVariants as event
 use Rattle.pei_types.specs.declared.machines.MachineSpec.{MachineSpec}
 use Rattle.pei_types.specs.Blocks.{same_core, same_lane, same_pei, entry_of}
-use Rattle.pei_types.specs.Coherence.{state_after, look_of, look_in, free_lane, entry_is_taken, fence_of, pei_id}
+use Rattle.pei_types.specs.MachineState.{state_after, look_of, look_in, free_lane, entry_is_taken, fence_of, pei_id}
 use Rattle.pei_types.specs.Core.{events_of}
 use Rattle.pei_types.specs.Exclusion.{conflicts}
 use Rattle.pei_types.specs.History.{Pei, issued_peis, pei_issued_by, pei_of, unfinished_peis, active_peis, entered_peis, phase_of, has_left, begins_fence, ends_fence}
@@ -18,9 +18,9 @@ use Rattle.pei_types.specs.Legal.{EachEvent}
 use Rattle.pei_types.specs.Operation.{mode_of}
 use Rattle.pei_types.specs.Program.{Listing, Contents}
 use Rattle.pei_types.specs.Recency.{without}
-use Rattle.history_laws.specs.Entering.{LanesApart}
+use Rattle.history_laws.specs.EntryOrder.{LanesApart}
 use Rattle.history_laws.specs.Members.{In}
-use Rattle.history_laws.specs.Tracking.{as_issued, is_past_issue, IsTracked}
+use Rattle.history_laws.specs.TrackedPeis.{as_issued, is_past_issue, IsTracked}
 use Rattle.coherence_laws.specs.Holdings.{Holdings}
 use Rattle.coherence_laws.specs.Sets.{EachPair}
 use Rattle.bank_laws.specs.Across.{FollowsItsPei}

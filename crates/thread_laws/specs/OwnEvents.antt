@@ -7,7 +7,7 @@ use Rattle.pei_types.specs.declared.events.Event.{Event}
 use Rattle.pei_types.specs.declared.events.EventKind.{EventKind}
 use Rattle.pei_types.specs.declared.events.EventKind.TheVariants as event
 use Rattle.pei_types.specs.declared.machines.MachineSpec.{MachineSpec}
-use Rattle.pei_types.specs.Coherence.{State, state_after, free_lane}
+use Rattle.pei_types.specs.MachineState.{State, state_after, free_lane}
 use Rattle.pei_types.specs.Core.{events_of}
 use Rattle.pei_types.specs.History.{Pei}
 use Rattle.pei_types.specs.Legal.{EachEvent}

@@ -5,7 +5,7 @@ use Rattle.pei_types.specs.declared.inflight_looks.PeiLook.{PeiLook}
 use Rattle.pei_types.specs.History.{pei_issued_by}
 use Rattle.pei_types.specs.Operation.{is_writer}
 use Rattle.history_laws.specs.Members.{In}
-use Rattle.history_laws.specs.Tracking.{as_issued}
+use Rattle.history_laws.specs.TrackedPeis.{as_issued}
 
 -- no writer among these PEIs was issued in the log with a stamp below that of the fence's begin
 abbrev pub WaitsForNone : ℕ → List Stamped → List PeiLook → Type 0

@@ -20,7 +20,7 @@ use Rattle.pei_types.specs.Laws.{FoldsGrow, StopsOnce}
 use Rattle.pei_types.specs.Program.{Listing, Contents}
 use Rattle.pei_types.proofs.Identities.{same_core_is}
 use Rattle.pei_types.proofs.Tests.{same_self}
-use Rattle.core_exec.specs.Standing.{Standing, is_asking, is_request, retires, seen}
+use Rattle.core_exec.specs.CoreView.{Standing, is_asking, is_request, retires, seen}
 use Rattle.core_exec.specs.declared.next.CoreNext.{CoreNext}
 use Rattle.core_exec.specs.declared.next.CoreNext.TheVariants as next
 use Rattle.trace_check.specs.Cores.{CoresGoOn, CoreStops, IsAt, ended_after, ended_by}

@@ -16,7 +16,7 @@ use Rattle.pei_types.specs.declared.events.EventKind.TheVariants as event
 use Rattle.pei_types.specs.declared.machines.MachineSpec.{MachineSpec}
 use Rattle.pei_types.specs.Blocks.{block_of, is_word_of_memory, same_core, same_lane, same_pei, word_of}
 use Rattle.pei_types.specs.Calls.{AnswersCall, BelongsTo, EndsLast, FollowsPei, Messages, Peis, Programs, Side, follows_phase, is_actor_of, side_of}
-use Rattle.pei_types.specs.Coherence.{State, entry_is_taken, fence_of, look_in, pei_id}
+use Rattle.pei_types.specs.MachineState.{State, entry_is_taken, fence_of, look_in, pei_id}
 use Rattle.pei_types.specs.Core.{CoreNext}
 use Rattle.pei_types.specs.Exclusion.{EntersAlone, conflicts}
 use Rattle.pei_types.specs.Fence.{FencesEarlier, earlier_writers_left}
@@ -31,7 +31,7 @@ use Rattle.coherence_laws.specs.Invariants.{Invariants}
 use Rattle.coherence_laws.specs.Laws.{LanesHoldPeis}
 use Rattle.history_laws.specs.Fences.{Settles}
 use Rattle.history_laws.specs.Laws.{AgreementTells, ExclusionTells}
-use Rattle.history_laws.specs.Tracking.{Agrees, IsTracked, as_issued, fence_is_on, writers_awaited}
+use Rattle.history_laws.specs.TrackedPeis.{Agrees, IsTracked, as_issued, fence_is_on, writers_awaited}
 use Rattle.trace_check.specs.InState.{AnswersIn, AnswersSide, EndsDrained, EndsFence, FollowsLook, enters_free, finds_free}
 use Rattle.trace_check.specs.Issues.{AllFit, RepliesBy}
 

@@ -9,7 +9,7 @@ use Rattle.pei_types.specs.declared.inflight_looks.PeiLook.{PeiLook}
 use Rattle.pei_types.specs.declared.machines.MachineSpec.{MachineSpec}
 use Rattle.pei_types.specs.declared.operations.Letter.{Letter}
 use Rattle.pei_types.specs.declared.operations.Letter.TheVariants as letter
-use Rattle.pei_types.specs.Coherence.{State, is_absent, is_ahead, is_dirty, is_i, is_owned, letter_of, letters_of, mark_of, none_has, none_owns}
+use Rattle.pei_types.specs.MachineState.{State, is_absent, is_ahead, is_dirty, is_i, is_owned, letter_of, letters_of, mark_of, none_has, none_owns}
 use Rattle.pei_types.specs.Guard.{memory_is_current}
 use Rattle.pei_types.specs.Operation.{is_writer}
 use Rattle.pmu_dispatch.specs.Shown.{AreBlocksLooksOf, AreLooksOf, eight_letters}

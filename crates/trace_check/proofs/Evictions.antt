@@ -10,11 +10,11 @@ use Rattle.pei_types.specs.declared.inflight_looks.PeiLook.{PeiLook}
 use Rattle.pei_types.specs.declared.machines.MachineSpec.{MachineSpec}
 use Rattle.pei_types.specs.declared.operations.Place.{Place}
 use Rattle.pei_types.specs.Blocks.{llc_set_of, same_block, same_core, tag_of}
-use Rattle.pei_types.specs.Coherence.{Line, LlcLine, State, is_i, l1_set, letter_of, llc_set, look_in, look_of, pei_id}
+use Rattle.pei_types.specs.MachineState.{Line, LlcLine, State, is_i, l1_set, letter_of, llc_set, look_in, look_of, pei_id}
 use Rattle.pei_types.specs.Guard.{guard}
 use Rattle.pei_types.specs.Monitor.{placement}
 use Rattle.pei_types.specs.Recency.{list_at, victim}
-use Rattle.pei_types.specs.Turns.{EvictsLast, PlacesByMonitor, clears_way_for}
+use Rattle.pei_types.specs.StateClauses.{EvictsLast, PlacesByMonitor, clears_way_for}
 use Rattle.pei_types.proofs.Identities.{same_core_is}
 use Rattle.trace_check.specs.InState.{is_found}
 

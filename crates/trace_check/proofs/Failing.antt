@@ -14,7 +14,7 @@ use Rattle.pei_types.specs.declared.events.EventKind.TheVariants as event
 use Rattle.pei_types.specs.declared.machines.MachineSpec.{MachineSpec}
 use Rattle.pei_types.specs.Blocks.{block_of}
 use Rattle.pei_types.specs.Calls.{follows_phase, is_actor_of}
-use Rattle.pei_types.specs.Coherence.{State, state_after}
+use Rattle.pei_types.specs.MachineState.{State, state_after}
 use Rattle.pei_types.specs.Core.{CoreNext, next_of_core}
 use Rattle.pei_types.specs.FlatMemory.{flat_block}
 use Rattle.pei_types.specs.Legal.{FailsFirst, Holds, Legal}
@@ -23,7 +23,7 @@ use Rattle.pei_types.specs.Order.{IsInOrder}
 use Rattle.pei_types.specs.Program.{Listing, Contents}
 use Rattle.pei_types.specs.Turns.{is_entering}
 use Rattle.history_laws.specs.Sound.{Sound}
-use Rattle.machine_laws.specs.Standing.{RunInOrder}
+use Rattle.machine_laws.specs.InOrder.{RunInOrder}
 use Rattle.trace_check.specs.InState.{AnswersIn, FailsIn, FitsMemory, LooksFit, enters_free, is_ordered, waits_for_own}
 use Rattle.trace_check.specs.Issues.{AllFit, RepliesBy}
 use Rattle.trace_check.specs.Laws.{Rests}

@@ -20,7 +20,7 @@ use Rattle.pei_types.specs.declared.inflight_looks.StallCause.TheVariants as sta
 use Rattle.pei_types.specs.Turns.{is_entering}
 use Rattle.pei_types.specs.Blocks.{block_of, is_word_of_memory, same_pei, vault_of, word_of}
 use Rattle.pei_types.specs.Calls.{AnswersNext, CallFits, Messages, Peis, Programs, Side, side_of}
-use Rattle.pei_types.specs.Coherence.{Line, LlcLine, State, conflict, first_unentered, first_unfinished, fence_of, free_lane, is_absent, is_clean, is_dirty, is_i, is_owned, is_sealed, letter_of, llc_set, look_in, mark_of, no_other_has, queue_is_full, queue_of}
+use Rattle.pei_types.specs.MachineState.{Line, LlcLine, State, conflict, first_unentered, first_unfinished, fence_of, free_lane, is_absent, is_clean, is_dirty, is_i, is_owned, is_sealed, letter_of, llc_set, look_in, mark_of, no_other_has, queue_is_full, queue_of}
 use Rattle.pei_types.specs.Core.{CoreNext, Calls, Busy, Ended}
 use Rattle.pei_types.specs.Guard.{letter_serves}
 use Rattle.pei_types.specs.Next.{Turn, Makes, Stalls, act_kind, call_row, draining_or, enter_row, evict, fence_row, bring_in, grant_modify, grant_shared, head_row, holder, issue_row, l1_victim, lane_row, make_room, may_act, other_holder, other_owner, owner, pei_row, race_or, seal_reader, seal_row, seal_writer, want}

@@ -12,7 +12,7 @@ use Rattle.pei_types.specs.declared.events.EventKind.TheVariants as event
 use Rattle.pei_types.specs.declared.machines.MachineSpec.{MachineSpec}
 use Rattle.pei_types.specs.Blocks.{same_core, same_lane, same_pei}
 use Rattle.pei_types.specs.Calls.{AnswersCall, AnswersNext}
-use Rattle.pei_types.specs.Coherence.{state_after}
+use Rattle.pei_types.specs.MachineState.{state_after}
 use Rattle.pei_types.specs.Core.{CoreNext, Calls, Busy, Ended, core_after, core_at_start, core_config, events_of, next_of_core}
 use Rattle.pei_types.specs.History.{Pei, issued_peis, pei_issued_by}
 use Rattle.pei_types.specs.Laws.{AsksWhatFits}
@@ -20,9 +20,9 @@ use Rattle.pei_types.specs.Legal.{Legal}
 use Rattle.pei_types.specs.Program.{Listing, Contents}
 use Rattle.pei_types.proofs.Lists.{found_has}
 use Rattle.history_laws.specs.Members.{In}
-use Rattle.history_laws.specs.Tracking.{Agrees, IsTracked, as_issued, issue_count}
+use Rattle.history_laws.specs.TrackedPeis.{Agrees, IsTracked, as_issued, issue_count}
 use Rattle.machine_laws.specs.Laws.{RowsMakeLegal}
-use Rattle.machine_laws.specs.Standing.{RunInOrder}
+use Rattle.machine_laws.specs.InOrder.{RunInOrder}
 use Rattle.trace_check.specs.InState.{FitsMemory, LooksFit}
 use Rattle.trace_check.specs.Issues.{AllFit, AreAsIssued, FitsBlocks, issued_as}
 use Rattle.trace_check.proofs.Ordering.{found_in}

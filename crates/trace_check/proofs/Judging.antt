@@ -18,7 +18,7 @@ use Rattle.pei_types.specs.declared.events.EventKind.TheVariants as event
 use Rattle.pei_types.specs.declared.machines.MachineSpec.{MachineSpec}
 use Rattle.pei_types.specs.Blocks.{block_of, is_word_of_memory, same_pei, word_of, vault_of}
 use Rattle.pei_types.specs.Calls.{CallFits, is_actor_of}
-use Rattle.pei_types.specs.Coherence.{State, conflict, entry_is_taken, is_i, letter_of, look_in, queue_of, state_after}
+use Rattle.pei_types.specs.MachineState.{State, conflict, entry_is_taken, is_i, letter_of, look_in, queue_of, state_after}
 use Rattle.pei_types.specs.Core.{CoreNext, Calls, Busy, Ended, next_of_core}
 use Rattle.pei_types.specs.FlatMemory.{flat_block}
 use Rattle.pei_types.specs.Legal.{Meets}
@@ -30,9 +30,9 @@ use Rattle.pei_types.specs.Race.{access_of, racing_pei, RacesRightly}
 use Rattle.pei_types.specs.Turns.{is_entering, program_turn, lane_turn, turn_of}
 use Rattle.history_laws.specs.Fits.{EntersFree}
 use Rattle.history_laws.specs.Laws.{AgreementTells}
-use Rattle.history_laws.specs.Tracking.{Agrees}
+use Rattle.history_laws.specs.TrackedPeis.{Agrees}
 use Rattle.machine_laws.specs.Laws.{RowsMeetAll}
-use Rattle.machine_laws.specs.Standing.{RunInOrder}
+use Rattle.machine_laws.specs.InOrder.{RunInOrder}
 use Rattle.trace_check.specs.InState.{FitsMemory, LooksFit, MeetsIn, RacesIn, enters_free, finds_free, turn_at_lane, turn_in}
 
 -- ---- races

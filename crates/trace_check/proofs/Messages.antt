@@ -11,7 +11,7 @@ use Rattle.pei_types.specs.declared.machines.MachineSpec.{MachineSpec}
 use Rattle.pei_types.specs.declared.operations.Letter.{Letter}
 use Rattle.pei_types.specs.declared.operations.Letter.TheVariants as letter
 use Rattle.pei_types.specs.Blocks.{l1_set_of}
-use Rattle.pei_types.specs.Coherence.{Line, State, is_absent, is_ahead, is_clean, is_dirty, is_i, is_line_of, is_owned, letter_in, letter_of, llc_set, mark_of, writer_is_sealed, none_has, none_owns, no_other_has, no_other_owns, is_sealed}
+use Rattle.pei_types.specs.MachineState.{Line, State, is_absent, is_ahead, is_clean, is_dirty, is_i, is_line_of, is_owned, letter_in, letter_of, llc_set, mark_of, writer_is_sealed, none_has, none_owns, no_other_has, no_other_owns, is_sealed}
 use Rattle.pei_types.specs.Guard.{guard, l1_has_room, llc_has_room}
 use Rattle.pei_types.specs.Recency.{list_at, victim}
 use Rattle.coherence_laws.specs.Invariants.{Invariants}

@@ -22,7 +22,7 @@ use Rattle.pei_types.specs.declared.operations.Place.{Place}
 use Rattle.pei_types.specs.declared.operations.Place.TheVariants as place
 use Rattle.pei_types.specs.declared.operations.Reply.{Reply}
 use Rattle.pei_types.specs.Blocks.{block_of, llc_set_of, same_block, tag_of, vault_of, word_of}
-use Rattle.pei_types.specs.Coherence.{State, after_acting, after_acting_in, after_granting, after_placing, after_reading, free_lane, in_phase, is_absent, is_ahead, is_i, is_owned, is_sealed, mark_of, no_other_has, writer_is_sealed, letter_of, look_in, look_of, next_state, after_leaving, with_l1_front, with_l1_shared, with_l1_touch, with_llc_mark, with_queued, without_l1_line}
+use Rattle.pei_types.specs.MachineState.{State, after_acting, after_acting_in, after_granting, after_placing, after_reading, free_lane, in_phase, is_absent, is_ahead, is_i, is_owned, is_sealed, mark_of, no_other_has, writer_is_sealed, letter_of, look_in, look_of, next_state, after_leaving, with_l1_front, with_l1_shared, with_l1_touch, with_llc_mark, with_queued, without_l1_line}
 use Rattle.std.proofs.lemmas.Bool.{and_parts, eqb-true}
 use Rattle.pei_types.proofs.Identities.{same_lane_is}
 use Rattle.pei_types.specs.Guard.{guard, is_lane, l1_has_room, llc_has_room}
@@ -38,7 +38,7 @@ use Rattle.locality_monitor.specs.Table.{Table, with_access}
 use Rattle.pei_types.specs.declared.machines.Policy3.{Policy3}
 use Rattle.pei_types.specs.declared.machines.Policy3.TheVariants as policy
 use Rattle.pmu_dispatch.specs.Steps.{is_message}
-use Rattle.trace_check.specs.Standing.{Moved, actor_of, host_written, joined, placed_under}
+use Rattle.trace_check.specs.CheckerParts.{Moved, actor_of, host_written, joined, placed_under}
 use Rattle.trace_check.specs.declared.checker.Checker.{Checker}
 use Rattle.trace_check.proofs.Contents.{acts_on_none, content_changed, reader_keeps}
 

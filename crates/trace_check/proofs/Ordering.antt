@@ -11,13 +11,13 @@ use Rattle.pei_types.specs.declared.inflight_looks.Phase.TheVariants as phase
 use Rattle.pei_types.specs.declared.events.Event.{Event}
 use Rattle.pei_types.specs.declared.machines.MachineSpec.{MachineSpec}
 use Rattle.pei_types.specs.Blocks.{same_block, same_core, same_pei}
-use Rattle.pei_types.specs.Coherence.{State, is_phase}
+use Rattle.pei_types.specs.MachineState.{State, is_phase}
 use Rattle.pei_types.specs.History.{Pei, ends_fence, has_acted, has_left, issued_peis, pei_issued_by}
 use Rattle.pei_types.specs.Operation.{is_writer}
 use Rattle.pei_types.specs.Order.{comes_first, earlier_acted, has_acted_if_first}
 use Rattle.history_laws.specs.Fences.{Settles}
 use Rattle.history_laws.specs.Members.{In}
-use Rattle.history_laws.specs.Tracking.{Agrees, IsTracked, as_issued}
+use Rattle.history_laws.specs.TrackedPeis.{Agrees, IsTracked, as_issued}
 use Rattle.trace_check.specs.InState.{waits_for_own}
 
 -- an access waits for a PEI, as the history has it: they are on one block, and one of them writes

@@ -9,7 +9,7 @@ use Rattle.pei_types.specs.declared.machines.MachineSpec.{MachineSpec}
 use Rattle.pei_types.specs.declared.operations.Letter.{Letter}
 use Rattle.pei_types.specs.declared.operations.Letter.TheVariants as letter
 use Rattle.pei_types.specs.Blocks.{same_core}
-use Rattle.pei_types.specs.Coherence.{State, cores_of, is_absent, is_i, is_owned, is_sealed, letter_of, mark_of, no_other_has, no_other_owns}
+use Rattle.pei_types.specs.MachineState.{State, cores_of, is_absent, is_i, is_owned, is_sealed, letter_of, mark_of, no_other_has, no_other_owns}
 use Rattle.pei_types.specs.Guard.{l1_has_room}
 use Rattle.coherence_laws.specs.Invariants.{Invariants}
 use Rattle.pmu_dispatch.specs.Shown.{AreLooksOf, eight_letters}

@@ -16,7 +16,7 @@ use Rattle.pei_types.specs.declared.identifiers.Lane.{Lane}
 use Rattle.pei_types.specs.declared.operations.Letter.{Letter}
 use Rattle.pei_types.specs.declared.operations.Letter.TheVariants as letter
 use Rattle.pei_types.specs.Blocks.{same_core, same_lane, vault_of}
-use Rattle.pei_types.specs.Coherence.{State, is_i, is_owned, is_phase, letter_of, look_in, look_of, mark_of, pei_id, queue_of}
+use Rattle.pei_types.specs.MachineState.{State, is_i, is_owned, is_phase, letter_of, look_in, look_of, mark_of, pei_id, queue_of}
 use Rattle.pei_types.specs.Guard.{act_guard, guard, is_pei, letter_serves, pei_guard}
 use Rattle.pei_types.specs.Operation.{is_writer}
 use Rattle.pei_types.proofs.Identities.{same_pei_is}
@@ -25,7 +25,7 @@ use Rattle.coherence_laws.specs.Sets.{Each}
 use Rattle.coherence_laws.specs.Invariants.{HoldsSeal, IsOnItsWay}
 use Rattle.inflight.specs.OnTheWay.{IsHead}
 use Rattle.trace_check.specs.declared.checker.Checker.{Checker}
-use Rattle.trace_check.specs.Standing.{Moved, actor_of}
+use Rattle.trace_check.specs.CheckerParts.{Moved, actor_of}
 use Rattle.trace_check.specs.InState.{FollowsLook, IsOwn, IsOwnSide}
 
 id_of : CoreId → ℕ → PeiId

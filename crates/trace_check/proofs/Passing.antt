@@ -12,7 +12,7 @@ use Rattle.pei_types.specs.Ends.{all_ended, end_of, ends_of}
 use Rattle.pei_types.specs.Legal.{FailsFirst, Legal}
 use Rattle.pei_types.specs.Program.{Listing, Contents}
 use Rattle.trace_check.specs.declared.checker.Checker.{Checker}
-use Rattle.trace_check.specs.Following.{Follows}
+use Rattle.trace_check.specs.CheckedFront.{Follows}
 use Rattle.trace_check.specs.Verdicts.{FailsAt}
 
 -- the event that fails, between those before it and those behind it

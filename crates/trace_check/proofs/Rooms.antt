@@ -6,7 +6,7 @@ use Rattle.pei_types.specs.declared.identifiers.BlockNo.{BlockNo}
 use Rattle.pei_types.specs.declared.identifiers.CoreId.{CoreId}
 use Rattle.pei_types.specs.declared.machines.MachineSpec.{MachineSpec}
 use Rattle.pei_types.specs.Blocks.{l1_set_of, llc_set_of}
-use Rattle.pei_types.specs.Coherence.{Line, LlcLine, State, is_absent, is_i, is_line_of, is_llc_line_of, l1_set, letter_in, letter_of, llc_set, mark_in, mark_of}
+use Rattle.pei_types.specs.MachineState.{Line, LlcLine, State, is_absent, is_i, is_line_of, is_llc_line_of, l1_set, letter_in, letter_of, llc_set, mark_in, mark_of}
 use Rattle.pei_types.specs.Guard.{l1_has_room, llc_has_room}
 use Rattle.pei_types.specs.Next.{l1_victim}
 use Rattle.pei_types.specs.Recency.{has_room, victim}

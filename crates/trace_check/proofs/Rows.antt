@@ -10,7 +10,7 @@ use Rattle.pei_types.specs.declared.events.EventKind.{EventKind}
 use Rattle.pei_types.specs.declared.events.EventKind.TheVariants as event
 use Rattle.pei_types.specs.declared.machines.MachineSpec.{MachineSpec}
 use Rattle.pei_types.specs.Blocks.{block_of, word_of}
-use Rattle.pei_types.specs.Coherence.{State, conflict}
+use Rattle.pei_types.specs.MachineState.{State, conflict}
 use Rattle.pei_types.specs.Guard.{waits_for_none}
 use Rattle.pei_types.specs.Next.{Turn, Makes, Stalls, call_row, fence_row}
 use Rattle.pmu_dispatch.specs.declared.looks.WantLooks.{WantLooks}

@@ -5,17 +5,17 @@ use Rattle.pei_types.specs.declared.identifiers.BlockNo.{BlockNo}
 use Rattle.pei_types.specs.declared.identifiers.CoreId.{CoreId}
 use Rattle.pei_types.specs.declared.events.Event.{Event}
 use Rattle.pei_types.specs.declared.machines.MachineSpec.{MachineSpec}
-use Rattle.pei_types.specs.Coherence.{start_state}
+use Rattle.pei_types.specs.MachineState.{start_state}
 use Rattle.pei_types.specs.Core.{at_stop, core_at_start, core_config}
 use Rattle.pei_types.specs.FlatMemory.{flat_block}
 use Rattle.pei_types.specs.Legal.{Legal}
 use Rattle.pei_types.specs.Program.{Listing, Contents, block_at}
-use Rattle.core_exec.specs.Standing.{Standing}
+use Rattle.core_exec.specs.CoreView.{Standing}
 use Rattle.coherence_bus.specs.Hierarchy.{Hierarchy, content_of, empty_hierarchy}
 use Rattle.inflight.specs.OnTheWay.{OnTheWay, none_issued}
 use Rattle.locality_monitor.specs.Table.{Table, empty_table}
 use Rattle.trace_check.specs.Cores.{IsAt}
-use Rattle.trace_check.specs.Standing.{joined}
+use Rattle.trace_check.specs.CheckerParts.{joined}
 
 pub legal_start : (p : Listing) (m : MachineSpec) (image : Contents) → Legal p m image []
 legal_start p m image before rest e is = absurd (no_event before is)

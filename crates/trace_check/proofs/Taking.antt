@@ -15,7 +15,7 @@ use Rattle.pei_types.specs.declared.events.EventKind.TheVariants as event
 use Rattle.pei_types.specs.declared.machines.MachineSpec.{MachineSpec}
 use Rattle.pei_types.specs.Blocks.{block_of, same_block, word_of}
 use Rattle.pei_types.specs.Calls.{is_actor_of}
-use Rattle.pei_types.specs.Coherence.{State, look_of, next_state, pei_id, state_after}
+use Rattle.pei_types.specs.MachineState.{State, look_of, next_state, pei_id, state_after}
 use Rattle.pei_types.specs.Core.{CoreNext, core_config, next_of_core}
 use Rattle.pei_types.specs.FlatMemory.{flat_block, with_word}
 use Rattle.pei_types.specs.Legal.{FailsFirst, Meets}
@@ -25,17 +25,17 @@ use Rattle.pei_types.proofs.Identities.{core_within}
 use Rattle.pei_types.proofs.Lists.{each_weaker}
 use Rattle.coherence_laws.specs.Data.{flat_act, next_flat}
 use Rattle.coherence_laws.specs.Invariants.{Invariants, IsAsIssued}
-use Rattle.core_exec.specs.Standing.{MayRetire, Standing, is_asking, retires, seen}
+use Rattle.core_exec.specs.CoreView.{MayRetire, Standing, is_asking, retires, seen}
 use Rattle.core_exec.specs.declared.next.CoreNext.{CoreNext as Told}
-use Rattle.history_laws.specs.Tracking.{IsTracked}
-use Rattle.machine_laws.specs.Standing.{RunInOrder}
+use Rattle.history_laws.specs.TrackedPeis.{IsTracked}
+use Rattle.machine_laws.specs.InOrder.{RunInOrder}
 use Rattle.trace_check.specs.declared.checker.Checker.{Checker}
 use Rattle.trace_check.specs.Cores.{CoresGoOn, CoreStops, ended_after}
-use Rattle.trace_check.specs.Following.{Follows}
+use Rattle.trace_check.specs.CheckedFront.{Follows}
 use Rattle.trace_check.specs.InState.{AnswersIn, FailsIn, FitsMemory, LooksFit, MayApply, MeetsIn}
 use Rattle.trace_check.specs.Issues.{AllFit, AreAsIssued, RepliesBy}
 use Rattle.trace_check.specs.Laws.{Laws}
-use Rattle.trace_check.specs.Standing.{content_of, state_of}
+use Rattle.trace_check.specs.CheckerParts.{content_of, state_of}
 use Rattle.trace_check.proofs.Along.{asking, cores_on, ended_on, get_here, next_told}
 use Rattle.trace_check.proofs.Filling.{may_apply}
 use Rattle.trace_check.proofs.FromLegal.{all_fit, as_they_were, few_issued, in_order, looks_fit, next_fits}

@@ -9,7 +9,7 @@ use Rattle.pei_types.specs.declared.inflight_looks.PeiLook.{PeiLook}
 use Rattle.pei_types.specs.declared.inflight_looks.Phase.TheVariants as phase
 use Rattle.pei_types.specs.declared.machines.MachineSpec.{MachineSpec}
 use Rattle.pei_types.specs.Blocks.{same_block, same_core, same_lane}
-use Rattle.pei_types.specs.Coherence.{State, is_phase}
+use Rattle.pei_types.specs.MachineState.{State, is_phase}
 use Rattle.pei_types.specs.Operation.{is_writer}
 use Rattle.pei_types.proofs.Identities.{same_core_is, same_lane_is}
 use Rattle.pei_types.proofs.Tests.{same_self}

@@ -7,7 +7,7 @@ use Rattle.pei_types.specs.declared.events.EventKind.TheVariants as event
 use Rattle.pei_types.specs.declared.machines.MachineSpec.{MachineSpec}
 use Rattle.pei_types.specs.Core.{CoreState, after_answer, at_stop, core_after, core_at_start, core_config, events_of, next_of}
 use Rattle.pei_types.specs.Program.{Listing, Contents, instr_at}
-use Rattle.core_exec.specs.Standing.{MayRetire, Standing, is_asking, retires, seen}
+use Rattle.core_exec.specs.CoreView.{MayRetire, Standing, is_asking, retires, seen}
 use Rattle.core_exec.specs.declared.next.CoreNext.{CoreNext}
 use Rattle.pei_types.specs.declared.machines.CoreConfig.{CoreConfig}
 

@@ -16,14 +16,15 @@ use Rattle.pei_types.specs.declared.machines.MachineSpec.{MachineSpec}
 use Rattle.pei_types.specs.declared.identifiers.Lane.{Lane}
 use Rattle.pei_types.specs.Blocks.{block_of, is_word_of_memory, same_block, same_core}
 use Rattle.pei_types.specs.Calls.{AnswersNext, CallFits, Messages, Peis, Programs, Side, follows_phase, side_of}
-use Rattle.pei_types.specs.Coherence.{State, conflict, entry_is_taken, fence_of, first_unfinished, is_absent, is_i, is_phase, letter_of, look_in, mark_of}
+use Rattle.pei_types.specs.MachineState.{State, conflict, entry_is_taken, fence_of, first_unfinished, is_absent, is_i, is_phase, letter_of, look_in, mark_of}
 use Rattle.pei_types.specs.Core.{CoreNext, Calls}
 use Rattle.coherence_bus.specs.Hierarchy.{FillsFrom}
 use Rattle.pei_types.specs.Guard.{guard, l1_has_room}
 use Rattle.pei_types.specs.Next.{Makes, Turn, lane_row}
 use Rattle.pei_types.specs.Operation.{CanApply, is_writer}
 use Rattle.pei_types.specs.Race.{access_of}
-use Rattle.pei_types.specs.Turns.{EvictsLast, PlacesByMonitor, is_entering, program_turn}
+use Rattle.pei_types.specs.StateClauses.{EvictsLast, PlacesByMonitor}
+use Rattle.pei_types.specs.Turns.{is_entering, program_turn}
 
 -- ---- calls
 

@@ -9,7 +9,7 @@ use Rattle.pei_types.specs.declared.events.Event.{Event}
 use Rattle.pei_types.specs.declared.events.EventKind.{EventKind}
 use Rattle.pei_types.specs.declared.events.EventKind.TheVariants as event
 use Rattle.pei_types.specs.Blocks.{block_of, is_word_of_memory, word_of}
-use Rattle.pei_types.specs.Coherence.{State, look_of}
+use Rattle.pei_types.specs.MachineState.{State, look_of}
 use Rattle.pei_types.specs.History.{Pei, pei_of}
 use Rattle.pei_types.specs.Operation.{CanApply, reply_of}
 use Rattle.trace_check.specs.declared.histories.Issued.{Issued}

@@ -9,7 +9,7 @@ use Rattle.pei_types.specs.declared.events.Event.{Event}
 use Rattle.pei_types.specs.declared.events.EventKind.{EventKind}
 use Rattle.pei_types.specs.declared.machines.MachineSpec.{MachineSpec}
 use Rattle.pei_types.specs.Calls.{is_actor_of}
-use Rattle.pei_types.specs.Coherence.{state_after}
+use Rattle.pei_types.specs.MachineState.{state_after}
 use Rattle.pei_types.specs.Core.{next_of_core}
 use Rattle.pei_types.specs.FlatMemory.{flat_block}
 use Rattle.pei_types.specs.Legal.{FailsFirst, Legal, Meets}
@@ -18,7 +18,7 @@ use Rattle.coherence_laws.specs.Laws.{FlatMemoryGoesOn, LanesHoldPeis}
 use Rattle.history_laws.specs.Laws.{AgreementTells, ExclusionTells, FittingMeets}
 use Rattle.machine_laws.specs.Laws.{RowsMakeLegal, RowsMeetAll}
 use Rattle.pei_types.specs.Laws.{AsksWhatFits, FoldsGrow, LegalGrows, StopsOnce}
-use Rattle.machine_laws.specs.Standing.{RunInOrder}
+use Rattle.machine_laws.specs.InOrder.{RunInOrder}
 use Rattle.trace_check.specs.InState.{FailsIn, FitsMemory, LooksFit, MeetsIn}
 use Rattle.trace_check.specs.Issues.{AllFit, RepliesBy}
 

@@ -1,8 +1,8 @@
-pub mod Standing
+pub mod CheckerParts
 pub mod Sides
 pub mod InState
 pub mod Issues
 pub mod Cores
-pub mod Following
+pub mod CheckedFront
 pub mod Verdicts
 pub mod Laws

@@ -34,16 +34,16 @@ pub(crate) struct Checker {
 impl Checker {
     ghost use Rattle.pei_types.specs.declared.identifiers.BlockNo.{BlockNo as BlockNumber};
     ghost use Rattle.pei_types.specs.Calls.{is_actor_of};
-    ghost use Rattle.pei_types.specs.Coherence.{next_state};
+    ghost use Rattle.pei_types.specs.MachineState.{next_state};
     ghost use Rattle.pei_types.specs.Legal.{FailsFirst};
     ghost use Rattle.pei_types.specs.Program.{Contents, Listing};
-    ghost use Rattle.core_exec.specs.Standing.{MayRetire, Standing as Stopped, retires, seen};
+    ghost use Rattle.core_exec.specs.CoreView.{MayRetire, Standing as Stopped, retires, seen};
     ghost use Rattle.trace_check.specs.Cores.{CoresGoOn, ended_after};
-    ghost use Rattle.trace_check.specs.Following.{Follows};
+    ghost use Rattle.trace_check.specs.CheckedFront.{Follows};
     ghost use Rattle.coherence_laws.specs.Data.{next_flat};
     ghost use Rattle.coherence_laws.specs.Invariants.{Invariants};
     ghost use Rattle.trace_check.specs.InState.{FailsIn, FitsMemory, LooksFit, MayApply, MeetsIn};
-    ghost use Rattle.trace_check.specs.Standing.{content_of, state_of};
+    ghost use Rattle.trace_check.specs.CheckerParts.{content_of, state_of};
 
     /// Before the first event.
     pub fn make(alloc: Global, spec: &MachineSpec, image: &Image) -> Result<Checker, OutOfMemory>

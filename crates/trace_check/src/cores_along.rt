@@ -2,7 +2,7 @@
 
 ghost use Rattle.std.specs.Prelude.{◌≡◌, ◌<◌, ◌≤◌, IsTrue, Some, slice_get};
 ghost use Rattle.pei_types.specs.Program.{Listing};
-ghost use Rattle.core_exec.specs.Standing.{MayRetire, Standing as Stopped, retires};
+ghost use Rattle.core_exec.specs.CoreView.{MayRetire, Standing as Stopped, retires};
 ghost use Rattle.trace_check.specs.Cores.{CoreStops, CoresGoOn, ended_after};
 
 use core_exec::{Core, CoreNext};

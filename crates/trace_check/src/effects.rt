@@ -6,13 +6,13 @@ ghost use Rattle.pei_types.specs.declared.identifiers.Lane.{Lane as LaneNumber};
 ghost use Rattle.pei_types.specs.declared.events.EventKind.TheVariants as event;
 ghost use Rattle.pei_types.specs.Blocks.{block_of, is_word_of_memory};
 ghost use Rattle.pei_types.specs.Calls.{Programs, is_actor_of, side_of as side_of_lem};
-ghost use Rattle.pei_types.specs.Coherence.{fence_of, free_lane, is_i, is_owned, letter_of};
+ghost use Rattle.pei_types.specs.MachineState.{fence_of, free_lane, is_i, is_owned, letter_of};
 ghost use Rattle.pei_types.specs.Guard.{guard};
 ghost use Rattle.coherence_laws.specs.Invariants.{Invariants};
 ghost use Rattle.coherence_bus.specs.Hierarchy.{FillsFrom};
 ghost use Rattle.pmu_dispatch.specs.Steps.{is_message};
 ghost use Rattle.trace_check.specs.InState.{LooksFit, MayApply};
-ghost use Rattle.trace_check.specs.Standing.{Moved, state_of};
+ghost use Rattle.trace_check.specs.CheckerParts.{Moved, state_of};
 
 use crate::calls::{Side, side_of};
 use crate::checker::Checker;

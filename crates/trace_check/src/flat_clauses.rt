@@ -3,14 +3,14 @@
 
 ghost use Rattle.std.specs.Prelude.{◌≡◌, ◌<◌, ◌↔◌, IsTrue, true};
 ghost use Rattle.pei_types.specs.Calls.{is_actor_of};
-ghost use Rattle.pei_types.specs.Coherence.{look_in};
+ghost use Rattle.pei_types.specs.MachineState.{look_in};
 ghost use Rattle.pei_types.specs.Race.{access_of as access_of_lem};
 ghost use Rattle.coherence_laws.specs.Invariants.{Invariants};
-ghost use Rattle.core_exec.specs.Standing.{seen};
+ghost use Rattle.core_exec.specs.CoreView.{seen};
 ghost use Rattle.inflight.specs.OnTheWay.{IsLaneOf};
 ghost use Rattle.trace_check.specs.InState.{AccessesMemory, EndsFence, FitsMemory, IsOwn, RacesIn, enters_free, is_ordered, waits_in};
 ghost use Rattle.trace_check.specs.InState.{waits_for_own as waits_for_own_lem};
-ghost use Rattle.trace_check.specs.Standing.{state_of};
+ghost use Rattle.trace_check.specs.CheckerParts.{state_of};
 
 use crate::checker::Checker;
 use core_exec::CoreNext;

@@ -3,13 +3,13 @@
 ghost use Rattle.std.specs.Prelude.{◌≡◌, ◌<◌, ◌↔◌, IsTrue, true, false, if◌then◌else◌, None, Some};
 ghost use Rattle.pei_types.specs.declared.calls.Call.TheVariants as call;
 ghost use Rattle.pei_types.specs.Calls.{CallFits, is_actor_of};
-ghost use Rattle.pei_types.specs.Coherence.{first_unentered, look_in, queue_is_full};
+ghost use Rattle.pei_types.specs.MachineState.{first_unentered, look_in, queue_is_full};
 ghost use Rattle.pei_types.specs.Next.{Makes, call_row as call_row_lem, enter_row as enter_row_lem, lane_row as lane_row_lem, pei_row as pei_row_lem};
 ghost use Rattle.pei_types.specs.Turns.{is_entering as is_entering_lem};
-ghost use Rattle.core_exec.specs.Standing.{seen};
+ghost use Rattle.core_exec.specs.CoreView.{seen};
 ghost use Rattle.trace_check.specs.InState.{FitsMemory, LooksFit, made, turn_in};
 ghost use Rattle.pei_types.specs.Operation.{CanApply};
-ghost use Rattle.trace_check.specs.Standing.{content_of, state_of};
+ghost use Rattle.trace_check.specs.CheckerParts.{content_of, state_of};
 
 use crate::checker::Checker;
 use crate::histories::Issued;

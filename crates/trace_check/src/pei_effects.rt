@@ -5,13 +5,13 @@ ghost use Rattle.pei_types.specs.declared.events.EventKind.TheVariants as event;
 ghost use Rattle.pei_types.specs.declared.operations.Reply.{Reply as Answer};
 ghost use Rattle.pei_types.specs.Blocks.{vault_of as vault_of_lem};
 ghost use Rattle.pei_types.specs.Calls.{is_actor_of};
-ghost use Rattle.pei_types.specs.Coherence.{is_i, is_owned, letter_of, mark_of, queue_is_full, queue_of};
+ghost use Rattle.pei_types.specs.MachineState.{is_i, is_owned, letter_of, mark_of, queue_is_full, queue_of};
 ghost use Rattle.pei_types.specs.Operation.{CanApply, is_writer};
 ghost use Rattle.coherence_laws.specs.Invariants.{HoldsSeal, Invariants};
 ghost use Rattle.coherence_bus.specs.Hierarchy.{state_of as lines_of};
 ghost use Rattle.inflight.specs.OnTheWay.{IsHead};
 ghost use Rattle.trace_check.specs.InState.{IsPeis, LooksFit, MayApply};
-ghost use Rattle.trace_check.specs.Standing.{IsThere, Moved, actor_of, host_written, placed_under, state_of};
+ghost use Rattle.trace_check.specs.CheckerParts.{IsThere, Moved, actor_of, host_written, placed_under, state_of};
 
 use crate::checker::Checker;
 use coherence_bus::Bus;

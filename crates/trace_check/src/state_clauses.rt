@@ -3,14 +3,14 @@
 ghost use Rattle.std.specs.Prelude.{◌≡◌, ◌<◌, ◌↔◌, IsTrue, true};
 ghost use Rattle.pei_types.specs.Blocks.{llc_set_of, tag_of};
 ghost use Rattle.pei_types.specs.Calls.{is_actor_of};
-ghost use Rattle.pei_types.specs.Coherence.{look_in};
+ghost use Rattle.pei_types.specs.MachineState.{look_in};
 ghost use Rattle.pei_types.specs.Guard.{guard};
 ghost use Rattle.pei_types.specs.Monitor.{placement as placement_lem};
 ghost use Rattle.pei_types.specs.Recency.{list_at};
-ghost use Rattle.pei_types.specs.Turns.{EvictsLast, PlacesByMonitor, clears_way_for};
+ghost use Rattle.pei_types.specs.StateClauses.{EvictsLast, PlacesByMonitor, clears_way_for};
 ghost use Rattle.coherence_laws.specs.Invariants.{Invariants};
 ghost use Rattle.trace_check.specs.InState.{IsOwn, is_found};
-ghost use Rattle.trace_check.specs.Standing.{state_of};
+ghost use Rattle.trace_check.specs.CheckerParts.{state_of};
 
 use crate::checker::Checker;
 use crate::same_events::is_same_place;

@@ -2,7 +2,7 @@
 
 ghost use Rattle.std.specs.Prelude.{◌≡◌, false};
 ghost use Rattle.pei_types.specs.Program.{HasRegisters};
-ghost use Rattle.core_exec.specs.Standing.{retires};
+ghost use Rattle.core_exec.specs.CoreView.{retires};
 
 use super::*;
 use pei_types::{Actor, BlockNo, Call, Lane, Op, Operands, OutOfMemory, PeiId, Reply, TrapCause};

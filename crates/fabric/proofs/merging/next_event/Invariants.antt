@@ -1,6 +1,6 @@
 use Rattle.std.specs.Prelude.{◌≡◌, drop, option_map}
 use Rattle.bank_laws.specs.Logs.{event_with}
-use Rattle.fabric.specs.Merging.{logs_of}
+use Rattle.fabric.specs.Merge.{logs_of}
 use Rattle.fabric.proofs.merging.next_event.Given as goal
 
 -- no bank so far has it

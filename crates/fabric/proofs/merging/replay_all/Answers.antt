@@ -1,15 +1,15 @@
 use Rattle.std.proofs.Common.{◌≡◌, ℕ, suc, ◌+◌, ◌<◌, List, [], ◌∷◌, ◌++◌, length, None, sym, ◌∙◌, ap, subst, arith}
 use Rattle.pei_types.specs.declared.events.Event.{Event}
 use Rattle.pei_types.specs.declared.machines.MachineSpec.{MachineSpec}
-use Rattle.pei_types.specs.Coherence.{state_after}
+use Rattle.pei_types.specs.MachineState.{state_after}
 use Rattle.pei_types.specs.Legal.{MeetsAll}
 use Rattle.history_laws.specs.Fits.{EntersFree}
-use Rattle.machine_laws.specs.Standing.{MachineInOrder}
+use Rattle.machine_laws.specs.InOrder.{MachineInOrder}
 use Rattle.bank_laws.specs.Logs.{event_with, merged}
 use Rattle.journal.specs.Recorded.{Recorded}
 use Rattle.fabric.specs.Kept.{Keeps}
-use Rattle.fabric.specs.Merging.{CanMerge, logs_of}
-use Rattle.fabric.specs.Moving.{after_event}
+use Rattle.fabric.specs.Merge.{CanMerge, logs_of}
+use Rattle.fabric.specs.Moves.{after_event}
 use Rattle.fabric.specs.Whole.{Whole}
 use Rattle.fabric.proofs.Going.{IsRowOf, keeps_event}
 use Rattle.fabric.proofs.Uniting.{Stepped, again, all_made, few_events, found_none, found_some, step_at}

@@ -1,7 +1,7 @@
 use Rattle.std.specs.Prelude.{◌≡◌, ◌≤◌, ℕ}
 use Rattle.bank_laws.specs.Logs.{AreStamped, merged}
 use Rattle.fabric.specs.Kept.{Keeps}
-use Rattle.fabric.specs.Merging.{logs_of}
+use Rattle.fabric.specs.Merge.{logs_of}
 use Rattle.fabric.proofs.merging.replay_all.Given as goal
 
 -- the events with smaller stamps were made

@@ -2,7 +2,7 @@ use Rattle.std.proofs.Common.{rules, ◌≡◌, ◌+◌, ◌++◌, ◌∷◌, []
 use Rattle.std.specs.List.{AllByRecursion}
 use Rattle.std.proofs.lemmas.List.{take_more}
 use Rattle.fabric.specs.Banks.{BankHistory}
-use Rattle.fabric.specs.Merging.{IsVouched}
+use Rattle.fabric.specs.Merge.{IsVouched}
 use Rattle.pei_types.proofs.Lists.{each_append}
 use Rattle.fabric.proofs.merging.vouch.Goals as goal
 

@@ -1,6 +1,6 @@
 use Rattle.std.specs.Prelude.{take}
 use Rattle.std.specs.List.{AllByRecursion}
-use Rattle.fabric.specs.Merging.{IsVouched}
+use Rattle.fabric.specs.Merge.{IsVouched}
 use Rattle.fabric.proofs.merging.vouch.Given as goal
 
 -- each bank so far vouches

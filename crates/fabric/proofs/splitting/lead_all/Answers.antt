@@ -1,7 +1,7 @@
 use Rattle.std.proofs.Common.{length, sym, ◌∙◌, ap, subst, arith}
 use Rattle.fabric.specs.Banks.{BankHistory}
 use Rattle.fabric.specs.KeptReserve.{IsFresh}
-use Rattle.fabric.specs.Merging.{IsCons}
+use Rattle.fabric.specs.Merge.{IsCons}
 use Rattle.fabric.proofs.Splits.{banks_cons, banks_length, starts_with}
 use Rattle.fabric.proofs.splitting.lead_all.Goals as goal
 

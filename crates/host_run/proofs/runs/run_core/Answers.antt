@@ -1,6 +1,6 @@
 use Rattle.std.proofs.Common.{ap, ap₂, ◌∙◌}
 use Rattle.pei_types.specs.Core.{core_at_start}
-use Rattle.core_exec.specs.Standing.{Standing}
+use Rattle.core_exec.specs.CoreView.{Standing}
 use Rattle.host_run.proofs.Sent.{slot_crosses}
 use Rattle.host_run.proofs.Starting.{begins}
 use Rattle.host_run.proofs.runs.run_core.Goals as goal

@@ -1,7 +1,7 @@
 use Rattle.std.proofs.Common.{◌∷◌, ◌++◌, refl, ◌∙◌}
 use Rattle.std.proofs.lemmas.Result.{err_from_is_err_and}
 use Rattle.kernel_text.specs.declared.senses.Wanted.TheVariants as wanted
-use Rattle.kernel_text.specs.Reading.{comma, operands, ending}
+use Rattle.kernel_text.specs.Readings.{comma, operands, ending}
 use Rattle.kernel_text.proofs.actions.dot.Goals as goal
 
 pub returns-in_err-d-clause-sticks : goal.returns-in_err-d-clause-sticks

@@ -2,7 +2,7 @@ use Rattle.std.proofs.Common.{◌≡◌, ◌∷◌, ◌++◌, [], false, ap, sym
 use Rattle.std.specs.Prelude.{codes}
 use Rattle.kernel_text.specs.declared.senses.Wanted.TheVariants as wanted
 use Rattle.kernel_text.specs.Lexemes.{token_of}
-use Rattle.kernel_text.specs.Reading.{index, comma, operands, value, ending}
+use Rattle.kernel_text.specs.Readings.{index, comma, operands, value, ending}
 use Rattle.kernel_text.specs.Built.{tokens_in, begins_with_word}
 use Rattle.kernel_text.proofs.Continuing.{reads_one_word}
 use Rattle.kernel_text.proofs.Phrases.{pass_reads, pass_sticks, reads_dot}

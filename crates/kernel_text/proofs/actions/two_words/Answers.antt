@@ -1,7 +1,7 @@
 use Rattle.std.proofs.Common.{◌∷◌, ◌++◌, [], refl, sym, ◌∙◌}
 use Rattle.kernel_text.specs.declared.senses.Wanted.TheVariants as wanted
 use Rattle.kernel_text.specs.Lexemes.{token_of}
-use Rattle.kernel_text.specs.Reading.{index, comma, value, ending}
+use Rattle.kernel_text.specs.Readings.{index, comma, value, ending}
 use Rattle.kernel_text.specs.Built.{tokens_in}
 use Rattle.kernel_text.proofs.Continuing.{wanted_at_end}
 use Rattle.kernel_text.proofs.Phrases.{pass_reads, pass_sticks, reads_probe, reads_hist, sticks_at_words}

@@ -4,7 +4,7 @@ use Rattle.std.specs.Str.{byte}
 use Rattle.kernel_text.specs.declared.senses.Wanted.TheVariants as wanted
 use Rattle.kernel_text.specs.Grammar.{expression, operator}
 use Rattle.kernel_text.specs.Lexemes.{token_of}
-use Rattle.kernel_text.specs.Reading.{opens_bracket}
+use Rattle.kernel_text.specs.Readings.{opens_bracket}
 use Rattle.kernel_text.specs.Views.{expression_of}
 use Rattle.kernel_text.specs.Built.{tokens_in}
 use Rattle.kernel_text.proofs.Continuing.{reads_number, reads_variable, reads_item, reads_group, sticks_at_term, term_at_end, reads_more}

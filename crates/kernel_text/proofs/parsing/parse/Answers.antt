@@ -1,5 +1,5 @@
 use Rattle.std.proofs.Common.{sym, ap, ◌∙◌}
-use Rattle.kernel_text.specs.Reading.{a_kernel}
+use Rattle.kernel_text.specs.Readings.{a_kernel}
 use Rattle.kernel_text.specs.Views.{kernel_of}
 use Rattle.kernel_text.specs.Built.{tokens_in, continues}
 use Rattle.kernel_text.proofs.Whole.{spells, never_misfits}

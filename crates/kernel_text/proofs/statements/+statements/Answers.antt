@@ -4,7 +4,7 @@ use Rattle.kernel_text.specs.declared.senses.Wanted.TheVariants as wanted
 use Rattle.kernel_text.specs.Lexemes.{token_of}
 use Rattle.kernel_text.specs.Trees.{done}
 use Rattle.kernel_text.specs.Grammar.{statements}
-use Rattle.kernel_text.specs.Reading.{opens_bracket}
+use Rattle.kernel_text.specs.Readings.{opens_bracket}
 use Rattle.kernel_text.specs.Views.{with_statements}
 use Rattle.kernel_text.specs.Built.{tokens_in, spelled_statement}
 use Rattle.kernel_text.proofs.Phrases.{reads_store, reads_set, reads_print, reads_inc, reads_min, reads_for, statement_begins, last_statement, no_statement_here}

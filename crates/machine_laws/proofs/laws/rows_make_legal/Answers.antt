@@ -3,7 +3,7 @@ use Rattle.pei_types.specs.declared.machines.MachineSpec.{MachineSpec}
 use Rattle.pei_types.specs.Legal.{Legal}
 use Rattle.pei_types.specs.Program.{Listing, Contents}
 use Rattle.std.proofs.Common.{List}
-use Rattle.machine_laws.specs.Standing.{RunInOrder}
+use Rattle.machine_laws.specs.InOrder.{RunInOrder}
 use Rattle.machine_laws.proofs.Programs.{rows_are_legal, legal_goes_by_rows}
 use Rattle.machine_laws.proofs.laws.rows_make_legal.Goals as goal
 

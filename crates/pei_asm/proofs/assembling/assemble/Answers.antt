@@ -1,7 +1,7 @@
 use Rattle.std.proofs.Common.{◌≡◌, None, sym, ap, ◌∙◌}
 use Rattle.std.specs.Option.{option_or}
 use Rattle.pei_asm.specs.Faults.{first_fault, unknown_label}
-use Rattle.pei_asm.specs.Spelling.{lines_read, program_of}
+use Rattle.pei_asm.specs.Meaning.{lines_read, program_of}
 use Rattle.pei_asm.proofs.Printables.{spelled_is_printable}
 use Rattle.pei_asm.proofs.TextVerdicts.{without_fault}
 use Rattle.pei_asm.proofs.assembling.assemble.Goals as goal

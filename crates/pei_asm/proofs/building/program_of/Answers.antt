@@ -1,10 +1,10 @@
 use Rattle.std.proofs.Common.{rules, ◌≡◌, ◌∷◌, ◌≤◌, ℕ, List, suc, drop, map, fold, arith, sym, ap, ◌∙◌}
 use Rattle.std.specs.Prelude.{filter_map}
 use Rattle.std.proofs.Math.Seq.{drop-cons}
-use Rattle.pei_asm.specs.Building.{with_item}
+use Rattle.pei_asm.specs.Items.{with_item}
 use Rattle.pei_asm.specs.Places.{item_on, place_or_start}
 use Rattle.pei_asm.specs.Sources.{line_of}
-use Rattle.pei_asm.specs.Spelling.{program_of}
+use Rattle.pei_asm.specs.Meaning.{program_of}
 use Rattle.pei_asm.specs.Stored.{stored}
 use Rattle.pei_asm.proofs.ItemByItem.{built}
 use Rattle.pei_asm.proofs.Printables.{place_below}

@@ -1,9 +1,9 @@
 use Rattle.std.proofs.Common.{◌≡◌, ◌≤◌, drop, map, fold, length}
 use Rattle.std.specs.Prelude.{filter_map}
-use Rattle.pei_asm.specs.Building.{with_item}
+use Rattle.pei_asm.specs.Items.{with_item}
 use Rattle.pei_asm.specs.Places.{item_on, place_or_start}
 use Rattle.pei_asm.specs.Sources.{line_of}
-use Rattle.pei_asm.specs.Spelling.{program_of}
+use Rattle.pei_asm.specs.Meaning.{program_of}
 use Rattle.pei_asm.specs.Stored.{stored}
 use Rattle.pei_asm.proofs.building.program_of.Given as goal
 

@@ -2,7 +2,7 @@ use Rattle.std.proofs.Common.{◌≡◌, ◌+◌, ◌≤◌, ◌++◌, [], lengt
 use Rattle.std.specs.Prelude.{option_map, filter_map}
 use Rattle.std.specs.Option.{option_map_or}
 use Rattle.pei_asm.specs.Faults.{first_line_fault}
-use Rattle.pei_asm.specs.Spelling.{lines_read, lines_of}
+use Rattle.pei_asm.specs.Meaning.{lines_read, lines_of}
 use Rattle.asm_statements.specs.Statements.{meaning_of}
 use Rattle.pei_asm.specs.Stored.{IsStored, lines_left, stored}
 use Rattle.pei_asm.proofs.reading.read_lines.Given as goal

@@ -1,6 +1,6 @@
 use Rattle.std.proofs.Common.{arith, ◌≡◌, ◌∷◌, ◌+◌, ◌-◌, length, take, drop, sym, ap, ◌∙◌}
 use Rattle.std.proofs.lemmas.List.{take_all, length-drop}
-use Rattle.pei_asm.specs.Spelling.{lines_of}
+use Rattle.pei_asm.specs.Meaning.{lines_of}
 use Rattle.pei_asm.proofs.LineSplits.{first_line_is, last_line_is}
 use Rattle.pei_asm.proofs.reading.split_line.Goals as goal
 

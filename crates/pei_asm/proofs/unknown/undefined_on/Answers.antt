@@ -2,7 +2,7 @@ use Rattle.std.proofs.Common.{map, not, sym, ap, ◌∙◌}
 use Rattle.std.specs.Prelude.{find, option_map}
 use Rattle.asm_statements.specs.Lexemes.{placed_of}
 use Rattle.asm_statements.specs.Sources.{statement_of}
-use Rattle.pei_asm.specs.Spelling.{is_defined, labels_of_statement}
+use Rattle.pei_asm.specs.Meaning.{is_defined, labels_of_statement}
 use Rattle.pei_asm.specs.Stored.{stored}
 use Rattle.pei_asm.specs.Unknown.{is_undefined}
 use Rattle.pei_asm.proofs.UnknownUses.{find_filtered}

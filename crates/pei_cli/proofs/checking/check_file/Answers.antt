@@ -1,5 +1,5 @@
 use Rattle.std.proofs.Common.{rules, refl}
-use Rattle.pei_cli.specs.Asking.{machine_as}
+use Rattle.pei_cli.specs.Words.{machine_as}
 use Rattle.pei_cli.proofs.ChecksServed.{judged, machine_refused}
 use Rattle.pei_cli.proofs.checking.check_file.Goals as goal
 

@@ -1,5 +1,5 @@
 use Rattle.std.proofs.Common.{rules, refl}
-use Rattle.pei_cli.specs.Asking.{job_of}
+use Rattle.pei_cli.specs.Words.{job_of}
 use Rattle.pei_cli.proofs.RunsServed.{machine_refused, machine_run}
 use Rattle.pei_cli.proofs.running.run_file.Goals as goal
 

@@ -1,6 +1,6 @@
 use Rattle.std.proofs.Common.{◌∙◌, ap}
 use Rattle.pei_types.specs.Ends.{status_of}
-use Rattle.pei_cli.specs.Asking.{job_of}
+use Rattle.pei_cli.specs.Words.{job_of}
 use Rattle.pei_cli.proofs.Served.{served, served_front, asks_at_end}
 use Rattle.pei_cli.proofs.running.run_program.Goals as goal
 

@@ -1,7 +1,7 @@
 use Rattle.std.proofs.Common.{rules, ◌≡◌, ℕ, List, [], get_or, Option, Some, IfSome, subst, sym}
-use Rattle.pei_cli.specs.Asking.{checks_as, runs_as}
+use Rattle.pei_cli.specs.Words.{checks_as, runs_as}
 use Rattle.pei_cli.specs.Jobs.{Asked}
-use Rattle.pei_cli.specs.Serving.{Serves}
+use Rattle.pei_cli.specs.Outcomes.{Serves}
 use Rattle.pei_cli.specs.Uses.{file_use, sink_use}
 use Rattle.pei_cli.specs.declared.words.Machine.{Machine}
 use Rattle.pei_cli.specs.declared.words.Run.{Run}

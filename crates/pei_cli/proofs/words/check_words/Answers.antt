@@ -1,5 +1,5 @@
 use Rattle.std.proofs.Common.{◌≡◌, List, ℕ, subst}
-use Rattle.pei_cli.specs.Asking.{machine_as}
+use Rattle.pei_cli.specs.Words.{machine_as}
 use Rattle.pei_cli.specs.Commands.{machine_word}
 use Rattle.pei_cli.proofs.AskedWords.{asked_check}
 use Rattle.pei_cli.proofs.words.check_words.Goals as goal

@@ -1,6 +1,6 @@
 use Rattle.std.proofs.Common.{◌≡◌, ◌∙◌, ◌-◌, ◌≤◌, ℕ, List, Some, take, drop, length, option_map, ap, subst, sym, refl, arith, length-drop}
 use Rattle.std.proofs.lemmas.List.{take_all}
-use Rattle.pei_cli.specs.Asking.{machine_as, output_as}
+use Rattle.pei_cli.specs.Words.{machine_as, output_as}
 use Rattle.pei_cli.specs.Commands.{machine_word, output_words, schedule_word, turns_word}
 use Rattle.pei_cli.specs.Jobs.{policy_of_word}
 use Rattle.pei_cli.proofs.AskedWords.{asked_run}

@@ -1,6 +1,6 @@
 use Rattle.std.proofs.Common.{◌≡◌, true, false, not, ◌||◌, refl, sym, ◌∙◌, ap}
 use Rattle.pei_types.specs.declared.operations.Letter.{Letter}
-use Rattle.pei_types.specs.Coherence.{is_owned}
+use Rattle.pei_types.specs.MachineState.{is_owned}
 use Rattle.pei_types.specs.Next.{want, may_act}
 use Rattle.pei_types.specs.Operation.{is_writer}
 use Rattle.pmu_dispatch.proofs.AccessRows.{message_is_made}

@@ -1,5 +1,5 @@
 use Rattle.std.proofs.Common.{◌≡◌, Bool, true, false, refl, sym, ◌∙◌, ap}
-use Rattle.pei_types.specs.Coherence.{letter_of}
+use Rattle.pei_types.specs.MachineState.{letter_of}
 use Rattle.pei_types.specs.Next.{want}
 use Rattle.pei_types.specs.Operation.{is_writer}
 use Rattle.pmu_dispatch.specs.Shown.{suffices}

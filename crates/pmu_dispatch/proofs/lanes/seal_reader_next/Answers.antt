@@ -1,5 +1,5 @@
 use Rattle.std.proofs.Common.{◌≡◌, true, false, Some, None, refl, sym, ◌∙◌, ap}
-use Rattle.pei_types.specs.Coherence.{mark_of, is_dirty}
+use Rattle.pei_types.specs.MachineState.{mark_of, is_dirty}
 use Rattle.pei_types.specs.Next.{owner}
 use Rattle.pmu_dispatch.proofs.LaneLooks.{peis_owner, peis_mark}
 use Rattle.pmu_dispatch.proofs.lanes.seal_reader_next.Goals as goal

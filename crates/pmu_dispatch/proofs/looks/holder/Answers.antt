@@ -4,7 +4,7 @@ use Rattle.std.proofs.lemmas.Iterator.{YieldsList-from_slice}
 use Rattle.std.proofs.lemmas.Iterator.Adapters.{position_from-zero}
 use Rattle.std.proofs.lemmas.Iterator.Search.{position_from_yields_List}
 use Rattle.pei_types.specs.declared.operations.Letter.{Letter}
-use Rattle.pei_types.specs.Coherence.{is_i}
+use Rattle.pei_types.specs.MachineState.{is_i}
 use Rattle.pmu_dispatch.specs.Shown.{core_of}
 use Rattle.pmu_dispatch.proofs.looks.holder.Goals as goal
 use Rattle.pmu_dispatch.proofs.looks.holder.Goals.{After-position}

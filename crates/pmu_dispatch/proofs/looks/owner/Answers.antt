@@ -3,7 +3,7 @@ use Rattle.std.specs.List.{position_from}
 use Rattle.std.proofs.lemmas.Iterator.{YieldsList-from_slice}
 use Rattle.std.proofs.lemmas.Iterator.Adapters.{position_from-zero}
 use Rattle.std.proofs.lemmas.Iterator.Search.{position_from_yields_List}
-use Rattle.pei_types.specs.Coherence.{is_owned}
+use Rattle.pei_types.specs.MachineState.{is_owned}
 use Rattle.pmu_dispatch.specs.Shown.{core_of}
 use Rattle.pmu_dispatch.proofs.looks.owner.Goals as goal
 use Rattle.pmu_dispatch.proofs.looks.owner.Goals.{After-position}

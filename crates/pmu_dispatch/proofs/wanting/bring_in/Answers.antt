@@ -1,5 +1,5 @@
 use Rattle.std.proofs.Common.{refl, sym, ◌∙◌}
-use Rattle.pei_types.specs.Coherence.{llc_set}
+use Rattle.pei_types.specs.MachineState.{llc_set}
 use Rattle.pei_types.specs.Recency.{victim}
 use Rattle.pmu_dispatch.specs.Shown.{victim_shown}
 use Rattle.pmu_dispatch.proofs.Cores.{blocks_llc_victim}

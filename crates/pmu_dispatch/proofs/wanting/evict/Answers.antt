@@ -1,5 +1,5 @@
 use Rattle.std.proofs.Common.{◌≡◌, Some, None, refl, sym, ap, ◌∙◌, true, false}
-use Rattle.pei_types.specs.Coherence.{is_dirty, mark_of}
+use Rattle.pei_types.specs.MachineState.{is_dirty, mark_of}
 use Rattle.pei_types.specs.Next.{holder}
 use Rattle.pmu_dispatch.specs.declared.looks.Victim.{Victim}
 use Rattle.pmu_dispatch.proofs.Cores.{victims_holder}

@@ -1,5 +1,5 @@
 use Rattle.std.proofs.Common.{◌≡◌, Some, None, refl, sym, ◌∙◌, ap, not}
-use Rattle.pei_types.specs.Coherence.{is_i}
+use Rattle.pei_types.specs.MachineState.{is_i}
 use Rattle.pei_types.specs.Next.{other_holder}
 use Rattle.pmu_dispatch.specs.Shown.{first_core}
 use Rattle.pmu_dispatch.proofs.Cores.{blocks_other_holder}

@@ -1,5 +1,5 @@
 use Rattle.std.proofs.Common.{◌≡◌, Some, None, refl, sym, ◌∙◌, ap, not, is_none, ◌||◌, true, false}
-use Rattle.pei_types.specs.Coherence.{is_i, is_owned, is_sealed, no_other_has}
+use Rattle.pei_types.specs.MachineState.{is_i, is_owned, is_sealed, no_other_has}
 use Rattle.pei_types.specs.Next.{other_owner}
 use Rattle.pmu_dispatch.specs.Shown.{first_core}
 use Rattle.pmu_dispatch.proofs.Cores.{blocks_other_holder, blocks_other_owner, blocks_sealed, no_other_shown}

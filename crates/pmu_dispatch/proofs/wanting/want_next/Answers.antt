@@ -1,7 +1,7 @@
 use Rattle.std.proofs.Common.{◌≡◌, sym, ◌∙◌, ap, true, false}
 use Rattle.pei_types.specs.declared.identifiers.BlockNo.{BlockNo}
 use Rattle.pei_types.specs.declared.events.EventKind.TheVariants as event
-use Rattle.pei_types.specs.Coherence.{Line, is_absent, mark_of}
+use Rattle.pei_types.specs.MachineState.{Line, is_absent, mark_of}
 use Rattle.pei_types.specs.Next.{l1_victim}
 use Rattle.pmu_dispatch.proofs.Cores.{blocks_mark, blocks_l1_victim}
 use Rattle.pmu_dispatch.proofs.Mapped.{some_mapped}

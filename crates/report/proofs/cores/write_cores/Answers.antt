@@ -1,6 +1,6 @@
 use Rattle.std.proofs.Common.{rules, ℕ, List, Ok, ◌<◌, subst, sym, None, Err}
 use Rattle.pei_io.specs.Outside.{Writes}
-use Rattle.pei_types.specs.Coherence.{cores_of}
+use Rattle.pei_types.specs.MachineState.{cores_of}
 use Rattle.pei_types.specs.Texts.{core_lines}
 use Rattle.report.proofs.Loops.{went_on, stopped, finished}
 use Rattle.report.proofs.ReportLines.{cores_count, core_at, lines_of_core}

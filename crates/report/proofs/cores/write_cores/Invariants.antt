@@ -1,6 +1,6 @@
 use Rattle.std.proofs.Common.{take, flat_map, Ok}
 use Rattle.pei_io.specs.Outside.{Writes}
-use Rattle.pei_types.specs.Coherence.{cores_of}
+use Rattle.pei_types.specs.MachineState.{cores_of}
 use Rattle.pei_types.specs.Texts.{core_lines}
 use Rattle.report.proofs.cores.write_cores.Given as goal
 

@@ -1,6 +1,6 @@
 use Rattle.std.proofs.Common.{ℕ, List, [], ◌∷◌, flat_map, codes, decimal, subst}
 use Rattle.pei_io.specs.Outside.{Writes}
-use Rattle.pei_types.specs.Coherence.{cores_of}
+use Rattle.pei_types.specs.MachineState.{cores_of}
 use Rattle.pei_types.specs.Ends.{status_of}
 use Rattle.pei_types.specs.Texts.{line, core_lines, ask_lines}
 use Rattle.report.specs.Shown.{asked_stats}

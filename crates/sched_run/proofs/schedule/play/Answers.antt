@@ -1,7 +1,7 @@
 use Rattle.std.proofs.Common.{IsTrue, sym, ◌∙◌, ap, subst, arith, rules}
 use Rattle.pei_types.specs.declared.machines.MachineSpec.{MachineSpec}
 use Rattle.pei_types.specs.Calls.{is_actor_of}
-use Rattle.sched_run.specs.Choosing.{policy_of}
+use Rattle.sched_run.specs.Choice.{policy_of}
 use Rattle.sched_run.proofs.Played.{chooses, room_left, went_on, stopped_over, stopped_unchosen, used_up}
 use Rattle.sched_run.proofs.schedule.play.Goals as goal
 

@@ -1,6 +1,6 @@
 use Rattle.std.proofs.Common.{◌∙◌, sym, ap, subst}
 use Rattle.pei_types.specs.Calls.{side_of}
-use Rattle.pei_types.specs.Coherence.{state_after}
+use Rattle.pei_types.specs.MachineState.{state_after}
 use Rattle.pei_types.specs.History.{entered_peis}
 use Rattle.pei_types.specs.declared.events.EventKind.TheVariants as event
 use Rattle.shared_table.specs.Diaries.{active_of}

@@ -1,4 +1,4 @@
-use Rattle.pei_types.specs.Coherence.{state_after}
+use Rattle.pei_types.specs.MachineState.{state_after}
 use Rattle.shared_table.specs.Journal.{events}
 use Rattle.thread_laws.proofs.Following.{log_tracks}
 use Rattle.thread_laws.proofs.Waiting.{clear_so, clear_only, clear_stays}

@@ -1,4 +1,4 @@
-use Rattle.pei_types.specs.Coherence.{state_after}
+use Rattle.pei_types.specs.MachineState.{state_after}
 use Rattle.thread_laws.proofs.BankLogs.{bank_follows}
 use Rattle.thread_laws.proofs.Lanes.{bank_lanes, entered_lanes, free_entry}
 use Rattle.thread_laws.proofs.laws.entries_are_free.Goals as goal

@@ -1,6 +1,6 @@
 use Rattle.thread_laws.proofs.Following.{log_tracks, active_are, left_is_gone}
 use Rattle.thread_laws.proofs.Entering.{past_entered, entered_past, taken_alike}
-use Rattle.pei_types.specs.Coherence.{state_after}
+use Rattle.pei_types.specs.MachineState.{state_after}
 use Rattle.thread_laws.proofs.laws.logs_track.Goals as goal
 
 pub returns : goal.returns

@@ -1,6 +1,6 @@
 use Rattle.std.proofs.Common.{◌∙◌, sym, ap}
 use Rattle.pei_types.specs.Blocks.{same_pei}
-use Rattle.pei_types.specs.Coherence.{state_after}
+use Rattle.pei_types.specs.MachineState.{state_after}
 use Rattle.pei_types.specs.History.{issued_peis}
 use Rattle.pei_types.proofs.Identities.{same_pei_refl}
 use Rattle.thread_laws.proofs.Own.{IsBelow, all_below, new_name, have_names, own_lanes}

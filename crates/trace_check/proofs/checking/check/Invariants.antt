@@ -1,5 +1,5 @@
 use Rattle.std.proofs.Common.{◌≡◌, ◌≤◌, take}
-use Rattle.trace_check.specs.Following.{Follows}
+use Rattle.trace_check.specs.CheckedFront.{Follows}
 use Rattle.trace_check.proofs.checking.check.Given as goal
 
 -- the checker has followed the events so far, which are no more than the machine's

@@ -3,7 +3,7 @@ use Rattle.std.specs.Prelude.{slice_index_or}
 use Rattle.std.proofs.lemmas.Option.{get_or_from_slice_get}
 use Rattle.pei_types.specs.Core.{after_answer}
 use Rattle.pei_types.specs.Program.{instr_at}
-use Rattle.core_exec.specs.Standing.{Standing, retires}
+use Rattle.core_exec.specs.CoreView.{Standing, retires}
 use Rattle.trace_check.proofs.Along.{there_is}
 use Rattle.trace_check.proofs.cores_along.take_in.Goals as goal
 

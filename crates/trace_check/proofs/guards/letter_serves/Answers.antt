@@ -1,5 +1,5 @@
 use Rattle.std.proofs.Common.{Bool, not, if◌then◌else◌, sym, ◌∙◌, ap}
-use Rattle.pei_types.specs.Coherence.{is_i, is_owned, letter_of}
+use Rattle.pei_types.specs.MachineState.{is_i, is_owned, letter_of}
 use Rattle.trace_check.proofs.Copies.{pei_letter}
 use Rattle.trace_check.proofs.guards.letter_serves.Goals as goal
 

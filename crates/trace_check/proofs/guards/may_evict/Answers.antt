@@ -1,7 +1,7 @@
 use Rattle.std.proofs.Common.{sym, ◌∙◌, ap}
 use Rattle.std.specs.Prelude.{not, ◌&&◌, ◌==◌}
 use Rattle.pei_types.specs.declared.identifiers.CoreId.{CoreId}
-use Rattle.pei_types.specs.Coherence.{is_i, letter_of}
+use Rattle.pei_types.specs.MachineState.{is_i, letter_of}
 use Rattle.trace_check.proofs.Messages.{lose_shown}
 use Rattle.trace_check.proofs.guards.may_evict.Goals as goal
 

@@ -1,5 +1,5 @@
 use Rattle.std.proofs.Common.{◌∙◌, ap}
-use Rattle.pei_types.specs.Coherence.{is_i}
+use Rattle.pei_types.specs.MachineState.{is_i}
 use Rattle.trace_check.proofs.Messages.{lose_shown}
 use Rattle.trace_check.proofs.guards.may_lose.Goals as goal
 

@@ -1,5 +1,5 @@
 use Rattle.std.proofs.Common.{◌∙◌, ap}
-use Rattle.pei_types.specs.Coherence.{is_owned}
+use Rattle.pei_types.specs.MachineState.{is_owned}
 use Rattle.trace_check.proofs.Messages.{share_shown}
 use Rattle.trace_check.proofs.guards.may_share.Goals as goal
 

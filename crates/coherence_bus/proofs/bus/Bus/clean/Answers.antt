@@ -1,5 +1,5 @@
 use Rattle.std.proofs.Common.{◌∙◌, ap, arith}
-use Rattle.pei_types.specs.Coherence.{is_absent}
+use Rattle.pei_types.specs.MachineState.{is_absent}
 use Rattle.stack_vaults.specs.Blocks.{with_block}
 use Rattle.coherence_bus.proofs.MessageEffects.{is_dirty_here, present_within, cleaned}
 use Rattle.coherence_bus.proofs.bus.Bus.clean.Goals as goal

@@ -1,6 +1,6 @@
 use Rattle.std.proofs.Common.{sym, ap, ◌∙◌}
 use Rattle.pei_types.specs.declared.identifiers.Block.{Block}
-use Rattle.pei_types.specs.Coherence.{is_i}
+use Rattle.pei_types.specs.MachineState.{is_i}
 use Rattle.mesi_l1.specs.Cache.{Cache, with_front}
 use Rattle.coherence_bus.proofs.MessageEffects.{letter_is, grants, granted, line_here, room_in}
 use Rattle.coherence_bus.proofs.bus.Bus.grant.Goals as goal

@@ -1,5 +1,5 @@
 use Rattle.std.proofs.Common.{sym, ap, ◌∙◌}
-use Rattle.pei_types.specs.Coherence.{is_i}
+use Rattle.pei_types.specs.MachineState.{is_i}
 use Rattle.coherence_bus.proofs.MessageEffects.{letter_is, not_i}
 use Rattle.coherence_bus.proofs.bus.Bus.grant_to_write.Goals as goal
 

@@ -1,5 +1,5 @@
 use Rattle.std.proofs.Common.{sym, ap, ◌∙◌}
-use Rattle.pei_types.specs.Coherence.{is_i}
+use Rattle.pei_types.specs.MachineState.{is_i}
 use Rattle.coherence_bus.proofs.AccessEffects.{copy_seen, touched}
 use Rattle.coherence_bus.proofs.MessageEffects.{letter_is}
 use Rattle.coherence_bus.proofs.bus.Bus.host_read.Goals as goal

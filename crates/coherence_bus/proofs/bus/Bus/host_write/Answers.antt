@@ -1,5 +1,5 @@
 use Rattle.std.proofs.Common.{sym, ap, ◌∙◌}
-use Rattle.pei_types.specs.Coherence.{is_owned}
+use Rattle.pei_types.specs.MachineState.{is_owned}
 use Rattle.coherence_bus.proofs.AccessEffects.{written}
 use Rattle.coherence_bus.proofs.MessageEffects.{letter_is}
 use Rattle.coherence_bus.proofs.bus.Bus.host_write.Goals as goal

@@ -4,7 +4,7 @@ use Rattle.std.specs.List.{range_with_len}
 use Rattle.std.proofs.lemmas.List.FromFn.{length-map-range_with_len, map-range_with_len_more}
 use Rattle.pei_types.specs.declared.operations.Letter.{Letter}
 use Rattle.pei_types.specs.declared.operations.Letter.TheVariants as letter
-use Rattle.pei_types.specs.Coherence.{letter_of}
+use Rattle.pei_types.specs.MachineState.{letter_of}
 use Rattle.coherence_bus.specs.Hierarchy.{Hierarchy, state_of}
 use Rattle.coherence_bus.proofs.MessageEffects.{letter_is}
 use Rattle.coherence_bus.proofs.Searching.{map_twice, set_next}

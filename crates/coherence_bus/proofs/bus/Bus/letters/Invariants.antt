@@ -1,7 +1,7 @@
 use Rattle.std.proofs.Common.{◌≡◌, ◌≤◌, ◌-◌, ◌++◌, map, replicate}
 use Rattle.std.specs.List.{range_with_len}
 use Rattle.pei_types.specs.declared.operations.Letter.TheVariants as letter
-use Rattle.pei_types.specs.Coherence.{letter_of}
+use Rattle.pei_types.specs.MachineState.{letter_of}
 use Rattle.coherence_bus.specs.Hierarchy.{state_of}
 use Rattle.coherence_bus.proofs.bus.Bus.letters.Given as goal
 

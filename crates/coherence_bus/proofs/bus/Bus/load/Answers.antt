@@ -3,7 +3,7 @@ use Rattle.std.specs.Prelude.{slice_index}
 use Rattle.pei_types.specs.declared.identifiers.Block.{Block}
 use Rattle.pei_types.specs.declared.identifiers.BlockNo.{BlockNo}
 use Rattle.pei_types.specs.Blocks.{block_of, word_of}
-use Rattle.pei_types.specs.Coherence.{is_i}
+use Rattle.pei_types.specs.MachineState.{is_i}
 use Rattle.mesi_l1.specs.Cache as private
 use Rattle.mesi_l1.specs.Cache.{with_touch}
 use Rattle.coherence_bus.proofs.AccessEffects.{copy_seen, touched}

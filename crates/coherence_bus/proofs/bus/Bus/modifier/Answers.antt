@@ -1,7 +1,7 @@
 use Rattle.std.proofs.Common.{◌≡◌, ◌<◌, ◌-◌, true, false, sym, ap, ◌∙◌, arith, map, find}
 use Rattle.std.specs.List.{range_with_len}
 use Rattle.pei_types.specs.declared.identifiers.CoreId.{CoreId}
-use Rattle.pei_types.specs.Coherence.{cores_of, is_ahead, letter_of}
+use Rattle.pei_types.specs.MachineState.{cores_of, is_ahead, letter_of}
 use Rattle.coherence_bus.specs.Hierarchy.{Hierarchy, state_of}
 use Rattle.coherence_bus.proofs.MessageEffects.{letter_is}
 use Rattle.coherence_bus.proofs.Searching.{core_here, core_past}

@@ -1,6 +1,6 @@
 use Rattle.std.proofs.Common.{◌≡◌, ◌-◌, map, find}
 use Rattle.std.specs.List.{range_with_len}
-use Rattle.pei_types.specs.Coherence.{cores_of, is_ahead, letter_of}
+use Rattle.pei_types.specs.MachineState.{cores_of, is_ahead, letter_of}
 use Rattle.coherence_bus.specs.Hierarchy.{state_of}
 use Rattle.coherence_bus.proofs.bus.Bus.modifier.Given as goal
 

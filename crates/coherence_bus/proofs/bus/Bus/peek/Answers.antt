@@ -1,5 +1,5 @@
 use Rattle.std.proofs.Common.{◌<◌, true, false, sym, ap, ◌∙◌, arith}
-use Rattle.pei_types.specs.Coherence.{is_absent, is_i}
+use Rattle.pei_types.specs.MachineState.{is_absent, is_i}
 use Rattle.coherence_bus.proofs.AccessEffects.{copy_seen, modified_has, peeked}
 use Rattle.coherence_bus.proofs.MessageEffects.{core_at, has_core, letter_is}
 use Rattle.coherence_bus.proofs.bus.Bus.peek.Goals as goal

@@ -3,7 +3,7 @@ use Rattle.pei_types.specs.declared.identifiers.Block.{Block}
 use Rattle.pei_types.specs.declared.identifiers.BlockNo.{BlockNo}
 use Rattle.pei_types.specs.declared.operations.Letter.TheVariants as letter
 use Rattle.pei_types.specs.Blocks.{block_of, word_of}
-use Rattle.pei_types.specs.Coherence.{is_owned}
+use Rattle.pei_types.specs.MachineState.{is_owned}
 use Rattle.pei_types.specs.FlatMemory.{with_word}
 use Rattle.mesi_l1.specs.Cache as private
 use Rattle.coherence_bus.specs.Hierarchy.{content_of}

@@ -1,5 +1,5 @@
 use Rattle.std.proofs.Common.{arith, true, false, refl, sym, ap, ◌∙◌}
-use Rattle.pei_types.specs.Coherence.{is_i, is_ahead}
+use Rattle.pei_types.specs.MachineState.{is_i, is_ahead}
 use Rattle.llc.specs.Cache.{with_dirty}
 use Rattle.coherence_bus.proofs.MessageEffects.{has_core, letter_is, core_at, included, taken}
 use Rattle.coherence_bus.proofs.bus.Bus.take_away.Goals as goal

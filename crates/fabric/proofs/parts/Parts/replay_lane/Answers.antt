@@ -1,5 +1,5 @@
 use Rattle.std.proofs.Common.{◌≡◌, Bool, true, sym, ap, ◌∙◌}
-use Rattle.pei_types.specs.Coherence.{look_in}
+use Rattle.pei_types.specs.MachineState.{look_in}
 use Rattle.pei_types.specs.Next.{lane_row}
 use Rattle.pei_types.specs.Turns.{is_entering}
 use Rattle.fabric.specs.History.{lane_of}

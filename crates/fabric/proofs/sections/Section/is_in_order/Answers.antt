@@ -8,7 +8,7 @@ use Rattle.coherence_laws.specs.Holdings.{Holdings}
 use Rattle.bank_laws.specs.Kept.{BankInOrder, FitsInBank}
 use Rattle.bank_laws.specs.Rows.{IsRowOfBank}
 use Rattle.fabric.specs.Banks.{BankHistory, events_of}
-use Rattle.fabric.specs.Fitting.{EventFits}
+use Rattle.fabric.specs.ValidEvents.{EventFits}
 use Rattle.fabric.proofs.Stampings.{log_events}
 use Rattle.fabric.proofs.sections.Section.is_in_order.Goals as goal
 

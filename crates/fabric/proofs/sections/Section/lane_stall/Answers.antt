@@ -1,5 +1,5 @@
 use Rattle.std.proofs.Common.{◌≡◌, Some, None, ap, sym, ◌∙◌}
-use Rattle.pei_types.specs.Coherence.{look_in}
+use Rattle.pei_types.specs.MachineState.{look_in}
 use Rattle.fabric.specs.Banks.{stall_in}
 use Rattle.fabric.specs.Whole.{content_in}
 use Rattle.fabric.proofs.BankRows.{lane_idles, lane_later, lane_waits, not_issued}

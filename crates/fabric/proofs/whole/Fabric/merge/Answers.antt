@@ -5,7 +5,7 @@ use Rattle.pei_types.specs.Program.{Contents}
 use Rattle.bank_laws.specs.Logs.{AreStamped, merged}
 use Rattle.fabric.specs.Banks.{BankHistory, banks_at_start}
 use Rattle.fabric.specs.History.{History}
-use Rattle.fabric.specs.Merging.{CanMerge, logs_of}
+use Rattle.fabric.specs.Merge.{CanMerge, logs_of}
 use Rattle.fabric.proofs.Splits.{all_banks, all_empty, first_bank, first_fresh, gathered_all}
 use Rattle.fabric.proofs.whole.Fabric.merge.Goals as goal
 

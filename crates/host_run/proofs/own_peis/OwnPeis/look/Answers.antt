@@ -1,7 +1,7 @@
 use Rattle.std.proofs.Common.{◌≤◌, ◌&&◌, true, false, sym, ◌∙◌, subst, ap, find, map, is_none, arith}
 use Rattle.std.specs.List.{range_with_len}
 use Rattle.pei_types.specs.Blocks.{same_core}
-use Rattle.pei_types.specs.Coherence.{State, state_after, fence_of, is_phase, look_in}
+use Rattle.pei_types.specs.MachineState.{State, state_after, fence_of, is_phase, look_in}
 use Rattle.pei_types.specs.declared.inflight_looks.Phase.TheVariants as phase
 use Rattle.host_run.proofs.Looks.{Lined, lined, first_is, free_is, fence_as_seen, found_of, same_looks, unentered_is, unfinished_is}
 use Rattle.host_run.proofs.Firsts.{Found}

@@ -10,7 +10,7 @@ use Rattle.fabric.specs.Banks.{AsksWhileFenced, BankHistory, IsHome, waits_of}
 use Rattle.fabric.specs.Looks.{open_fence}
 use Rattle.shared_table.specs.Journal.{events}
 use Rattle.shared_table.specs.Parts.{seen}
-use Rattle.host_run.specs.Following.{FencesAtHome}
+use Rattle.host_run.specs.ThreadInvariant.{FencesAtHome}
 use Rattle.host_run.specs.Own.{KeepsEvents, core_of, own_events, own_state}
 use Rattle.host_run.proofs.LaneEvents.{asks_fenced, fences_rightly, is_drawn, of_some, visit_call_ends, visit_call_entering, visit_call_home, visit_call_row, visit_fence, visit_lane, visit_new, visit_number}
 use Rattle.host_run.proofs.visits.Place.call.Goals as goal

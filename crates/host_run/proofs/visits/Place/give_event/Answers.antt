@@ -2,7 +2,7 @@ use Rattle.std.proofs.Common.{◌≡◌, ◌<◌, ◌^◌, ◌-◌, true, sym, �
 use Rattle.std.specs.Prelude.{IsTrue}
 use Rattle.pei_types.specs.declared.calls.Call.{Call}
 use Rattle.pei_types.specs.Core.{Calls, after_answer, at_stop, core_config, next_of}
-use Rattle.core_exec.specs.Standing.{is_request}
+use Rattle.core_exec.specs.CoreView.{is_request}
 use Rattle.shared_table.specs.Journal.{events}
 use Rattle.shared_table.specs.Owes.{MayMake}
 use Rattle.shared_table.specs.Parts.{seen}

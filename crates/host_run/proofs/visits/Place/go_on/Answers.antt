@@ -5,7 +5,7 @@ use Rattle.bank_laws.specs.Rows.{IsRowIn, bank_look}
 use Rattle.fabric.specs.Banks.{BankHistory}
 use Rattle.shared_table.specs.Journal.{events}
 use Rattle.shared_table.specs.Parts.{seen}
-use Rattle.host_run.specs.Following.{FencesAtHome}
+use Rattle.host_run.specs.ThreadInvariant.{FencesAtHome}
 use Rattle.host_run.specs.Own.{KeepsEvents, core_of, own_events, own_state}
 use Rattle.host_run.proofs.LaneEvents.{is_drawn, visit_ends, visit_entering, visit_home, visit_new, visit_row}
 use Rattle.host_run.proofs.visits.Place.go_on.Goals as goal

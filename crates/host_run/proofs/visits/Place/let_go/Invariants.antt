@@ -1,6 +1,6 @@
 use Rattle.std.proofs.Common.{◌≡◌, ◌≤◌}
 use Rattle.shared_table.specs.Parts.{core_number}
-use Rattle.host_run.specs.Following.{IsLetGo}
+use Rattle.host_run.specs.ThreadInvariant.{IsLetGo}
 use Rattle.host_run.proofs.visits.Place.let_go.Given as goal
 
 abbrev pub invariant-loop-lane : goal.invariant-loop-lane

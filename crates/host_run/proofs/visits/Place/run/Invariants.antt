@@ -1,5 +1,5 @@
 use Rattle.std.proofs.Common.{◌≡◌}
-use Rattle.host_run.specs.Following.{IsInTurn}
+use Rattle.host_run.specs.ThreadInvariant.{IsInTurn}
 use Rattle.host_run.specs.Own.{core_of}
 use Rattle.host_run.proofs.visits.Place.run.Given as goal
 

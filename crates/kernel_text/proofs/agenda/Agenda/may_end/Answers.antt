@@ -2,7 +2,7 @@ use Rattle.std.proofs.Common.{◌∙◌, ◌&&◌, suc, ap, sym, drop}
 use Rattle.std.proofs.Math.Seq.{drop-cons}
 use Rattle.std.proofs.lemmas.List.{drop_all}
 use Rattle.kernel_text.specs.declared.senses.Wanted.TheVariants as wanted
-use Rattle.kernel_text.specs.Reading.{may_end}
+use Rattle.kernel_text.specs.Readings.{may_end}
 use Rattle.kernel_text.proofs.Agendas.{ends_reversed}
 use Rattle.kernel_text.proofs.agenda.Agenda.may_end.Goals as goal
 

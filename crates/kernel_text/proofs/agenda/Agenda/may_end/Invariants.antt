@@ -1,5 +1,5 @@
 use Rattle.std.proofs.Common.{◌≡◌, drop}
-use Rattle.kernel_text.specs.Reading.{may_end}
+use Rattle.kernel_text.specs.Readings.{may_end}
 use Rattle.kernel_text.proofs.agenda.Agenda.may_end.Given as goal
 
 abbrev pub invariant-loop-wanted : goal.invariant-loop-wanted

@@ -1,7 +1,7 @@
 use Rattle.std.proofs.Common.{◌≡◌, ◌∷◌, ap, sym, ◌∙◌, refl, subst, IfOk, Option}
 use Rattle.kernel_text.specs.declared.senses.Wanted.TheVariants as wanted
 use Rattle.kernel_text.specs.Lexemes.{token_of}
-use Rattle.kernel_text.specs.Reading.{Reading, before, one_word, of_term, deepest, ending}
+use Rattle.kernel_text.specs.Readings.{Reading, before, one_word, of_term, deepest, ending}
 use Rattle.kernel_text.specs.Senses.{taken, next_token}
 use Rattle.kernel_text.proofs.Agendas.{before_before}
 use Rattle.kernel_text.proofs.agenda.Agenda.one_word.Goals as goal

@@ -1,6 +1,6 @@
 use Rattle.std.proofs.Common.{◌≡◌, length}
 use Rattle.kernel_text.specs.Lexemes.{token_of}
-use Rattle.kernel_text.specs.Reading.{read}
+use Rattle.kernel_text.specs.Readings.{read}
 use Rattle.kernel_text.specs.Senses.{next_token}
 use Rattle.kernel_text.proofs.agenda.Agenda.read.Given as goal
 

@@ -4,7 +4,7 @@ use Rattle.std.proofs.lemmas.List.{map-append}
 use Rattle.std.proofs.lemmas.List.Elements.{All-same, All-push}
 use Rattle.pei_asm.specs.Faults.{has_entry}
 use Rattle.pei_asm.specs.Sources.{HasWellFormed, line_of, place_in}
-use Rattle.pei_asm.specs.Spelling.{instruction_count, place_among, same_core}
+use Rattle.pei_asm.specs.Meaning.{instruction_count, place_among, same_core}
 use Rattle.pei_asm.specs.Stored.{stored, instruction_on}
 use Rattle.pei_asm.proofs.Placing.{count_snoc, entry_snoc, has_room, not_among, placed_on}
 use Rattle.pei_asm.proofs.lines.Lines.push.Goals as goal

@@ -4,14 +4,14 @@ use Rattle.std.specs.Prelude.{slice_get, ◌<◌}
 use Rattle.std.proofs.lemmas.Option.{slice_get-get_or}
 use Rattle.pei_types.specs.declared.identifiers.CoreId.{CoreId}
 use Rattle.pei_types.specs.Ends.{ends_of}
-use Rattle.core_exec.specs.Standing.{Standing}
+use Rattle.core_exec.specs.CoreView.{Standing}
 use Rattle.fabric.specs.History.{History}
 use Rattle.inflight.specs.OnTheWay.{IsLaneOf}
-use Rattle.sched_run.specs.Tracking.{IsAt}
+use Rattle.sched_run.specs.DefinedRun.{IsAt}
 use Rattle.pei_types.specs.declared.machines.MachineSpec.{MachineSpec}
-use Rattle.sched_run.specs.Turning.{TookIn, made_in, waited, with_made}
+use Rattle.sched_run.specs.Steps.{TookIn, made_in, waited, with_made}
 use Rattle.sched_run.proofs.LaneTurns.{grown, keeps_waiting, lane_turn_to, no_end, own}
-use Rattle.sched_run.proofs.Turns.{cores_event, goes_on, lane_of_actor, none_more}
+use Rattle.sched_run.proofs.ActorTurns.{cores_event, goes_on, lane_of_actor, none_more}
 use Rattle.sched_run.proofs.Ready.{ready}
 use Rattle.sched_run.proofs.running.Running.turn_of_lane.Goals as goal
 

@@ -5,13 +5,13 @@ use Rattle.pei_types.specs.Ends.{ends_of}
 use Rattle.pei_types.specs.Schedule.{by_row}
 use Rattle.std.specs.Prelude.{slice_get, ◌<◌}
 use Rattle.pei_types.specs.declared.identifiers.CoreId.{CoreId}
-use Rattle.core_exec.specs.Standing.{Standing}
+use Rattle.core_exec.specs.CoreView.{Standing}
 use Rattle.pei_types.proofs.Identities.{core_within}
 use Rattle.fabric.specs.History.{History, program_of}
-use Rattle.sched_run.specs.Tracking.{IsAt, run_in}
-use Rattle.sched_run.specs.Turning.{TookIn, program_row, run_at, with_made}
+use Rattle.sched_run.specs.DefinedRun.{IsAt, run_in}
+use Rattle.sched_run.specs.Steps.{TookIn, program_row, run_at, with_made}
 use Rattle.sched_run.proofs.Stepped.{event_noted}
-use Rattle.sched_run.proofs.Turns.{asks, cores_event, cores_stall, ends_event, event_made, event_none, goes_on, program_turn_is}
+use Rattle.sched_run.proofs.ActorTurns.{asks, cores_event, cores_stall, ends_event, event_made, event_none, goes_on, program_turn_is}
 use Rattle.sched_run.proofs.running.Running.turn_of_program.Goals as goal
 
 pub program_turn-requires-clause-fence : goal.program_turn-requires-clause-fence

@@ -1,6 +1,6 @@
 use Rattle.std.proofs.Common.{◌≡◌, true, refl, sym, subst}
 use Rattle.pei_types.specs.declared.events.EventKind.{EventKind}
-use Rattle.trace_check.specs.Standing.{Moved, state_of}
+use Rattle.trace_check.specs.CheckerParts.{Moved, state_of}
 use Rattle.pei_types.specs.declared.events.EventKind.TheVariants as event
 use Rattle.pei_types.specs.Guard.{guard}
 use Rattle.trace_check.proofs.Moves.{issue_lane, issue_number}

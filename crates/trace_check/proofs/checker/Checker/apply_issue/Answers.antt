@@ -2,8 +2,8 @@ use Rattle.std.proofs.Common.{◌≡◌, Some, None, refl, sym, ◌∙◌, ap, s
 use Rattle.pei_types.specs.declared.identifiers.Lane.{Lane}
 use Rattle.pei_types.specs.declared.machines.MachineSpec.{MachineSpec}
 use Rattle.pei_types.specs.declared.events.EventKind.TheVariants as event
-use Rattle.pei_types.specs.Coherence.{free_lane}
-use Rattle.trace_check.specs.Standing.{state_of}
+use Rattle.pei_types.specs.MachineState.{free_lane}
+use Rattle.trace_check.specs.CheckerParts.{state_of}
 use Rattle.trace_check.proofs.Moves.{Moves, issue_moves, moved_by}
 use Rattle.trace_check.proofs.checker.Checker.apply_issue.Goals as goal
 

@@ -2,9 +2,9 @@ use Rattle.std.proofs.Common.{◌≡◌, ℕ, Some, refl, sym, ◌∙◌}
 use Rattle.std.proofs.lemmas.Bool.{and_parts}
 use Rattle.pei_types.specs.declared.events.EventKind.TheVariants as event
 use Rattle.pei_types.specs.declared.inflight_looks.Phase.TheVariants as phase
-use Rattle.pei_types.specs.Coherence.{is_phase, look_in}
+use Rattle.pei_types.specs.MachineState.{is_phase, look_in}
 use Rattle.pei_types.specs.Guard.{letter_serves}
-use Rattle.trace_check.specs.Standing.{state_of}
+use Rattle.trace_check.specs.CheckerParts.{state_of}
 use Rattle.trace_check.proofs.Own.{own_guard, own_number, own_phase, before_act, serves_has, acts_owning, acts_ready, seal_of, moved_own}
 use Rattle.trace_check.proofs.checker.Checker.apply_pei.Goals as goal
 

@@ -2,11 +2,11 @@ use Rattle.std.proofs.Common.{◌≡◌, ◌<◌, true, option_map, sym, ◌∙�
 use Rattle.pei_types.specs.declared.identifiers.CoreId.{CoreId}
 use Rattle.pei_types.specs.declared.events.EventKind.{EventKind}
 use Rattle.pei_types.specs.declared.machines.MachineSpec.{MachineSpec}
-use Rattle.pei_types.specs.Coherence.{l1_set, llc_set}
+use Rattle.pei_types.specs.MachineState.{l1_set, llc_set}
 use Rattle.pei_types.specs.Guard.{guard}
 use Rattle.pei_types.specs.Recency.{victim}
 use Rattle.pei_types.proofs.Identities.{core_within}
-use Rattle.trace_check.specs.Standing.{state_of}
+use Rattle.trace_check.specs.CheckerParts.{state_of}
 use Rattle.trace_check.proofs.Evictions.{own_core, own_evicted, line_evicted}
 use Rattle.trace_check.proofs.checker.Checker.evicts_last.Goals as goal
 

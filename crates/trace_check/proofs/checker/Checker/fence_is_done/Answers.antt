@@ -1,6 +1,6 @@
 use Rattle.std.proofs.Common.{sym, ◌∙◌}
-use Rattle.pei_types.specs.Coherence.{fence_of}
-use Rattle.trace_check.specs.Standing.{state_of}
+use Rattle.pei_types.specs.MachineState.{fence_of}
+use Rattle.trace_check.specs.CheckerParts.{state_of}
 use Rattle.trace_check.proofs.Rows.{fence_done, fence_off, told_none}
 use Rattle.trace_check.proofs.checker.Checker.fence_is_done.Goals as goal
 

@@ -1,7 +1,7 @@
 use Rattle.std.proofs.Common.{◌≡◌, is_none, IsTrue, sym, ◌∙◌, subst}
 use Rattle.pei_types.specs.declared.events.EventKind.{EventKind}
 use Rattle.trace_check.specs.InState.{EndsFence}
-use Rattle.trace_check.specs.Standing.{state_of}
+use Rattle.trace_check.specs.CheckerParts.{state_of}
 use Rattle.trace_check.proofs.Rows.{told_none, fence_is_done}
 use Rattle.trace_check.proofs.checker.Checker.fences_earlier.Goals as goal
 

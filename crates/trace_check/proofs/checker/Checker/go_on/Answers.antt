@@ -1,5 +1,5 @@
 use Rattle.std.proofs.Common.{List, slice_get, sym, ◌∙◌, ap, subst}
-use Rattle.core_exec.specs.Standing.{Standing}
+use Rattle.core_exec.specs.CoreView.{Standing}
 use Rattle.trace_check.specs.Cores.{CoresGoOn}
 use Rattle.trace_check.proofs.checker.Checker.go_on.Goals as goal
 

@@ -2,9 +2,9 @@ use Rattle.std.proofs.Common.{ℕ, ◌&&◌, ◌==◌, sym, ◌∙◌, ap}
 use Rattle.std.specs.Prelude.{slice_index}
 use Rattle.pei_types.specs.declared.identifiers.CoreId.{CoreId}
 use Rattle.pei_types.specs.declared.machines.MachineSpec.{MachineSpec}
-use Rattle.pei_types.specs.Coherence.{free_lane}
+use Rattle.pei_types.specs.MachineState.{free_lane}
 use Rattle.pei_types.specs.Guard.{guard, is_lane}
-use Rattle.trace_check.specs.Standing.{state_of}
+use Rattle.trace_check.specs.CheckerParts.{state_of}
 use Rattle.trace_check.proofs.checker.Checker.is_answer_guarded.Goals as goal
 
 pub returns-in-Issue : goal.returns-in-Issue

@@ -1,6 +1,6 @@
 use Rattle.pei_types.specs.declared.identifiers.BlockNo.{BlockNo}
 use Rattle.pei_types.specs.declared.events.EventKind.TheVariants as event
-use Rattle.trace_check.specs.Standing.{state_of}
+use Rattle.trace_check.specs.CheckerParts.{state_of}
 use Rattle.trace_check.proofs.Messages.{guard_at}
 use Rattle.trace_check.proofs.checker.Checker.is_message_guarded.Goals as goal
 

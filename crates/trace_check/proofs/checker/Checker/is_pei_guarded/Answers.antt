@@ -1,7 +1,7 @@
 use Rattle.std.proofs.Common.{◌≡◌, Some, refl, sym, ◌∙◌}
 use Rattle.pei_types.specs.declared.events.EventKind.TheVariants as event
-use Rattle.pei_types.specs.Coherence.{look_in}
-use Rattle.trace_check.specs.Standing.{state_of}
+use Rattle.pei_types.specs.MachineState.{look_in}
+use Rattle.trace_check.specs.CheckerParts.{state_of}
 use Rattle.trace_check.proofs.Own.{pei_guarded, own_phase, before_place, before_read, before_leave, place_by_phase, leave_by_phase, read_by_phase}
 use Rattle.trace_check.proofs.checker.Checker.is_pei_guarded.Goals as goal
 

@@ -5,7 +5,7 @@ use Rattle.pei_types.specs.declared.events.EventKind.TheVariants as event
 use Rattle.pei_types.specs.Blocks.{word_of}
 use Rattle.pei_types.specs.Next.{Makes}
 use Rattle.pmu_dispatch.specs.declared.accesses.AccessNext.TheVariants as access
-use Rattle.trace_check.specs.Standing.{content_of, state_of}
+use Rattle.trace_check.specs.CheckerParts.{content_of, state_of}
 use Rattle.trace_check.proofs.Rows.{load_made, message_turn, same_turn}
 use Rattle.trace_check.proofs.checker.Checker.load_row.Goals as goal
 

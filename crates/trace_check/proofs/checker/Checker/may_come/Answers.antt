@@ -1,6 +1,6 @@
 use Rattle.std.proofs.Common.{◌∙◌, ap}
-use Rattle.pei_types.specs.Coherence.{is_i}
-use Rattle.trace_check.specs.Standing.{state_of}
+use Rattle.pei_types.specs.MachineState.{is_i}
+use Rattle.trace_check.specs.CheckerParts.{state_of}
 use Rattle.trace_check.proofs.Others.{come_shown}
 use Rattle.trace_check.proofs.Rows.{told_none}
 use Rattle.trace_check.proofs.checker.Checker.may_come.Goals as goal

@@ -1,4 +1,4 @@
-use Rattle.trace_check.specs.Standing.{state_of}
+use Rattle.trace_check.specs.CheckerParts.{state_of}
 use Rattle.trace_check.proofs.Messages.{fill_shown}
 use Rattle.trace_check.proofs.Rows.{told_none}
 use Rattle.trace_check.proofs.checker.Checker.may_fill.Goals as goal

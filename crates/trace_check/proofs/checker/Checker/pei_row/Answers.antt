@@ -2,10 +2,10 @@ use Rattle.std.proofs.Common.{ℕ, Some, None, if◌then◌else◌, slice_get, �
 use Rattle.pei_types.specs.declared.operations.Place.{Place}
 use Rattle.pei_types.specs.declared.operations.Reply.{Reply}
 use Rattle.pei_types.specs.declared.events.EventKind.TheVariants as event
-use Rattle.pei_types.specs.Coherence.{queue_is_full, queue_of}
+use Rattle.pei_types.specs.MachineState.{queue_is_full, queue_of}
 use Rattle.pmu_dispatch.specs.Shown.{ArePeisLooksOf}
 use Rattle.trace_check.specs.InState.{made}
-use Rattle.trace_check.specs.Standing.{content_of, state_of}
+use Rattle.trace_check.specs.CheckerParts.{content_of, state_of}
 use Rattle.trace_check.proofs.Rows.{message_event}
 use Rattle.trace_check.proofs.checker.Checker.pei_row.Goals as goal
 

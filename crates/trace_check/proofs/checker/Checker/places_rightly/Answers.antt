@@ -1,7 +1,7 @@
 use Rattle.std.proofs.Common.{◌≡◌, Some, refl, sym, ◌∙◌}
 use Rattle.pei_types.specs.declared.events.EventKind.TheVariants as event
-use Rattle.pei_types.specs.Coherence.{look_in}
-use Rattle.trace_check.specs.Standing.{state_of}
+use Rattle.pei_types.specs.MachineState.{look_in}
+use Rattle.trace_check.specs.CheckerParts.{state_of}
 use Rattle.trace_check.proofs.Evictions.{placed_so}
 use Rattle.trace_check.proofs.Own.{named_look}
 use Rattle.trace_check.proofs.checker.Checker.places_rightly.Goals as goal

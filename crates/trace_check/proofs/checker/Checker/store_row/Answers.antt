@@ -1,5 +1,5 @@
 use Rattle.pmu_dispatch.specs.declared.accesses.AccessNext.TheVariants as access
-use Rattle.trace_check.specs.Standing.{content_of, state_of}
+use Rattle.trace_check.specs.CheckerParts.{content_of, state_of}
 use Rattle.trace_check.proofs.Rows.{store_made, message_turn, same_turn}
 use Rattle.trace_check.proofs.checker.Checker.store_row.Goals as goal
 

@@ -2,7 +2,7 @@ use Rattle.std.proofs.Common.{◌≡◌, ℕ, ◌<◌, ◌≤◌, true≢false, 
 use Rattle.std.proofs.lemmas.List.{length-take-le}
 use Rattle.std.proofs.lemmas.Option.{slice_get_within}
 use Rattle.pei_types.specs.declared.events.Event.{Event}
-use Rattle.trace_check.specs.Following.{Follows}
+use Rattle.trace_check.specs.CheckedFront.{Follows}
 use Rattle.trace_check.proofs.Taking.{taken, fit_now, looks_now, issued_now, invariants_now, replies_first, actor_first, fits_now, clause_first, may_now, ready_now, follows_on}
 use Rattle.trace_check.proofs.checker.Checker.take_event.Goals as goal
 

@@ -1,8 +1,8 @@
 use Rattle.std.proofs.Common.{◌≡◌, ◌<◌, ◌+◌, false}
 use Rattle.pei_types.specs.declared.identifiers.Lane.{Lane}
-use Rattle.pei_types.specs.Coherence.{look_in}
+use Rattle.pei_types.specs.MachineState.{look_in}
 use Rattle.trace_check.specs.InState.{waits_in}
-use Rattle.trace_check.specs.Standing.{state_of}
+use Rattle.trace_check.specs.CheckerParts.{state_of}
 use Rattle.trace_check.proofs.checker.Checker.waits_for_own.Given as goal
 
 -- no lane so far has such a PEI

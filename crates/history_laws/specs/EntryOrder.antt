@@ -6,11 +6,11 @@ use Rattle.pei_types.specs.declared.events.EventKind.{EventKind}
 use Rattle.pei_types.specs.declared.events.EventKind.TheVariants as event
 use Rattle.pei_types.specs.declared.machines.MachineSpec.{MachineSpec}
 use Rattle.pei_types.specs.Blocks.{same_core, same_lane, same_pei}
-use Rattle.pei_types.specs.Coherence.{State, look_of, pei_id}
+use Rattle.pei_types.specs.MachineState.{State, look_of, pei_id}
 use Rattle.pei_types.specs.Exclusion.{conflicts}
 use Rattle.pei_types.specs.Guard.{pei_guard}
 use Rattle.history_laws.specs.Members.{In}
-use Rattle.history_laws.specs.Tracking.{is_past_issue}
+use Rattle.history_laws.specs.TrackedPeis.{is_past_issue}
 
 -- where a PEI is active, each earlier one of its core is; two active PEIs do not conflict
 pub record InTurn (m : MachineSpec) (s : State) : Type 0 where

@@ -14,7 +14,7 @@ use Rattle.pei_io.specs.declared.files.Which.TheVariants as which
 use Rattle.pei_asm.specs.declared.faults.AsmKind.TheVariants as kind
 use Rattle.pei_asm.specs.Canonical.{canonical}
 use Rattle.pei_asm.specs.Faults.{first_fault}
-use Rattle.pei_asm.specs.Spelling.{Spells}
+use Rattle.pei_asm.specs.Meaning.{Spells}
 use Rattle.pei_loader.specs.Faults.{IsLoadRefusal}
 use Rattle.pei_loader.specs.declared.faults.LoadFault.{LoadFault}
 use Rattle.pei_loader.specs.declared.faults.LoadFault.TheVariants as load

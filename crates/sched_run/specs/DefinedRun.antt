@@ -8,9 +8,9 @@ use Rattle.pei_types.specs.Core.{core_config, CoreState, core_at_start, core_aft
 use Rattle.pei_types.specs.Ends.{ends_of}
 use Rattle.pei_types.specs.Program.{Listing, Contents}
 use Rattle.pei_types.specs.Schedule.{Run}
-use Rattle.core_exec.specs.Standing.{Standing}
+use Rattle.core_exec.specs.CoreView.{Standing}
 use Rattle.history_laws.specs.Runs.{WholeRun}
-use Rattle.sched_run.specs.Turning.{run_at}
+use Rattle.sched_run.specs.Steps.{run_at}
 use Rattle.sched_run.specs.declared.running.Running.{Running}
 
 -- the run of the definitions where the code's run is, after so many turns

@@ -4,7 +4,7 @@ use Rattle.std.specs.List.{AllByRecursion}
 use Rattle.pei_types.specs.declared.machines.MachineSpec.{MachineSpec}
 use Rattle.pei_types.specs.declared.events.Event.{Event}
 use Rattle.pei_types.specs.Calls.{is_actor_of}
-use Rattle.pei_types.specs.Coherence.{state_after}
+use Rattle.pei_types.specs.MachineState.{state_after}
 use Rattle.pei_types.specs.Exclusion.{EntersAlone}
 use Rattle.pei_types.specs.Fence.{FencesEarlier}
 use Rattle.pei_types.specs.Legal.{EachEvent}
@@ -14,7 +14,7 @@ use Rattle.bank_laws.specs.Logs.{AreStamped, merged}
 use Rattle.pei_types.specs.declared.stamps.Stamped.{Stamped}
 use Rattle.bank_laws.specs.Rows.{IsGuardedWidely, IsRowOfBank}
 use Rattle.fabric.specs.Banks.{BankHistory, banks_at_start, events_of}
-use Rattle.fabric.specs.Fitting.{EventFits}
+use Rattle.fabric.specs.ValidEvents.{EventFits}
 use Rattle.fabric.specs.History.{History}
 
 -- a list with a first item

@@ -8,13 +8,13 @@ use Rattle.pei_types.specs.declared.operations.Mode.{Mode}
 use Rattle.pei_types.specs.declared.operations.Mode.TheVariants as mode
 use Rattle.pei_types.specs.Blocks.{entry_of}
 use Rattle.pei_types.specs.Claims.{Claims, no_claims}
-use Rattle.pei_types.specs.Coherence.{State, look_in}
+use Rattle.pei_types.specs.MachineState.{State, look_in}
 use Rattle.pei_types.specs.Operation.{mode_of}
 use Rattle.pei_types.specs.Recency.{list_at}
 use Rattle.pei_types.specs.Schedule.{LaneClaim, Free, Announced, Held, Spent}
-use Rattle.history_laws.specs.Entering.{LanesApart}
+use Rattle.history_laws.specs.EntryOrder.{LanesApart}
 use Rattle.history_laws.specs.Members.{In}
-use Rattle.history_laws.specs.Tracking.{is_past_issue}
+use Rattle.history_laws.specs.TrackedPeis.{is_past_issue}
 
 -- what lane l of core c has of the directory
 abbrev pub claim_at : List (List LaneClaim) → ℕ → ℕ → LaneClaim

@@ -1,16 +1,16 @@
 //! The turn of an actor: of a core's program, or of a lane with its PEI.
 
 ghost use Rattle.std.specs.Prelude.{◌≡◌, ◌<◌, ℕ, false, length, IsSome, Some};
-ghost use Rattle.core_exec.specs.Standing.{retires};
+ghost use Rattle.core_exec.specs.CoreView.{retires};
 ghost use Rattle.pei_types.specs.Next.{Stalls};
 ghost use Rattle.pim_directory.specs.Words.{IsReady};
 ghost use Rattle.pei_types.specs.Core.{core_config, next_of};
 ghost use Rattle.history_laws.specs.Fits.{AsksForFence};
 ghost use Rattle.inflight.specs.OnTheWay.{IsLaneOf};
 ghost use Rattle.fabric.specs.History.{IsEntryFree, lane_row_of, needs_of, program_of};
-ghost use Rattle.sched_run.specs.Claiming.{claim_in};
-ghost use Rattle.sched_run.specs.Turning.{waits_for_grant as waits_for_grant_lem};
-ghost use Rattle.sched_run.specs.Turning.{Enters, Entry, GoesOn, IsReadyFor, IsUnspent, TookIn, Tries, event_of, program_row, with_made};
+ghost use Rattle.sched_run.specs.LaneClaims.{claim_in};
+ghost use Rattle.sched_run.specs.Steps.{waits_for_grant as waits_for_grant_lem};
+ghost use Rattle.sched_run.specs.Steps.{Enters, Entry, GoesOn, IsReadyFor, IsUnspent, TookIn, Tries, event_of, program_row, with_made};
 
 use crate::claims::{Desk, LaneClaim};
 use core_exec::{Core, CoreNext};

@@ -4,15 +4,15 @@ use Rattle.pei_types.specs.declared.identifiers.BlockNo.{BlockNo}
 use Rattle.pei_types.specs.declared.identifiers.CoreId.{CoreId}
 use Rattle.pei_types.specs.declared.events.Event.{Event}
 use Rattle.pei_types.specs.declared.machines.MachineSpec.{MachineSpec}
-use Rattle.pei_types.specs.Coherence.{state_after}
+use Rattle.pei_types.specs.MachineState.{state_after}
 use Rattle.pei_types.specs.Ends.{ends_of}
 use Rattle.pei_types.specs.FlatMemory.{flat_block}
 use Rattle.pei_types.specs.Legal.{Legal}
 use Rattle.pei_types.specs.Program.{Listing, Contents}
-use Rattle.core_exec.specs.Standing.{Standing}
+use Rattle.core_exec.specs.CoreView.{Standing}
 use Rattle.trace_check.specs.declared.checker.Checker.{Checker}
 use Rattle.trace_check.specs.Cores.{IsAt}
-use Rattle.trace_check.specs.Standing.{state_of, content_of}
+use Rattle.trace_check.specs.CheckerParts.{state_of, content_of}
 
 -- The events so far are legal, and the checker's state, memory, cores and ends are those that they leave.
 pub record Follows (p : Listing) (m : MachineSpec) (image : Contents) (past : List Event) (v : Checker) : Type 0 where

@@ -2,7 +2,7 @@
 use Rattle.std.specs.Prelude.{◌≡◌, ⊤, ℕ, ◌<◌, List, [], length, get_or, Option, Some, None}
 use Rattle.pei_types.specs.Limits.{IsWithin}
 use Rattle.pei_types.specs.declared.machines.MachineSpec.{MachineSpec}
-use Rattle.sched_run.specs.Choosing.{HasActorsOf}
+use Rattle.sched_run.specs.Choice.{HasActorsOf}
 use Rattle.pei_cli.specs.Commands.{MachineWord, BuiltIn, FromFile, Output, Report, Trace}
 use Rattle.pei_cli.specs.Jobs.{Job, Asked, Runs, Checks, Prints, Generates, asked_of}
 use Rattle.pei_cli.specs.declared.words.Asked.{Asked as Parsed}

@@ -8,16 +8,16 @@ use Rattle.pei_types.specs.declared.machines.CoreConfig.{CoreConfig}
 use Rattle.pei_types.specs.declared.operations.Mode.{Mode}
 use Rattle.pei_types.specs.declared.inflight_looks.StallCause.{StallCause}
 use Rattle.pei_types.specs.Claims.{Claims, is_granted, with_claim}
-use Rattle.pei_types.specs.Coherence.{look_in}
+use Rattle.pei_types.specs.MachineState.{look_in}
 use Rattle.pei_types.specs.Core.{CoreNext, Calls, Busy, Ended, CoreState, at_stop, after_answer}
 use Rattle.pei_types.specs.Next.{Turn as Row, Makes, Stalls}
 use Rattle.pei_types.specs.Program.{Listing}
 use Rattle.pei_types.specs.Schedule.{Run, peis_step, whole_table}
 use Rattle.pim_directory.specs.Words.{IsHeld, IsReady}
 use Rattle.fabric.specs.History.{History, IsEntryFree, call_row_of, lane_row_of, needs_of, state_of}
-use Rattle.sched_run.specs.Claiming.{claim_after, claim_in, claims_of, entry_in, stepped, with_claim_at}
-use Rattle.sched_run.specs.declared.actors.Step.{Step}
-use Rattle.sched_run.specs.declared.actors.Step.TheVariants as step
+use Rattle.sched_run.specs.LaneClaims.{claim_after, claim_in, claims_of, entry_in, stepped, with_claim_at}
+use Rattle.sched_run.specs.declared.turns.Step.{Step}
+use Rattle.sched_run.specs.declared.turns.Step.TheVariants as step
 use Rattle.sched_run.specs.declared.claims.Desk.{Desk}
 use Rattle.sched_run.specs.declared.claims.LaneClaim.{LaneClaim as Claim}
 use Rattle.sched_run.specs.declared.claims.LaneClaim.TheVariants as claim

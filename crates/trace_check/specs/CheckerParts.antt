@@ -5,7 +5,7 @@ use Rattle.pei_types.specs.declared.identifiers.Block.{Block}
 use Rattle.pei_types.specs.declared.identifiers.BlockNo.{BlockNo}
 use Rattle.pei_types.specs.declared.events.EventKind.{EventKind}
 use Rattle.pei_types.specs.declared.inflight_looks.PeiLook.{PeiLook}
-use Rattle.pei_types.specs.Coherence.{State, look_in, look_of, next_state, with_l1_front}
+use Rattle.pei_types.specs.MachineState.{State, look_in, look_of, next_state, with_l1_front}
 use Rattle.pei_types.specs.Operation.{block_after, is_writer}
 use Rattle.pei_types.specs.declared.operations.Letter.TheVariants as letter
 use Rattle.coherence_laws.specs.Data.{next_flat}

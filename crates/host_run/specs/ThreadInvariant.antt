@@ -15,7 +15,7 @@ use Rattle.bank_laws.specs.Banks.{EachPlaced, Placed, StandsRightly}
 use Rattle.bank_laws.specs.Logs.{HandsBack, Rises}
 use Rattle.bank_laws.specs.Kept.{BankInOrder}
 use Rattle.coherence_laws.specs.Holdings.{Holdings}
-use Rattle.core_exec.specs.Standing.{Standing}
+use Rattle.core_exec.specs.CoreView.{Standing}
 use Rattle.thread_laws.specs.BankLogs.{IsBankLog}
 use Rattle.shared_table.specs.Actives.{active_in}
 use Rattle.shared_table.specs.Diaries.{active_of, events_of, made_in}

@@ -1,9 +1,9 @@
 use Rattle.std.proofs.Common.{Some, sym, ap, subst, ◌∙◌}
 use Rattle.pei_types.specs.declared.operations.Mode.{Mode}
-use Rattle.sched_run.specs.Turning.{Tries}
+use Rattle.sched_run.specs.Steps.{Tries}
 use Rattle.sched_run.proofs.Granting.{grant_needs}
 use Rattle.sched_run.proofs.Stepped.{announce_goes, announced_goes, enter_goes, reader_goes}
-use Rattle.sched_run.proofs.actors.toward_enter.Goals as goal
+use Rattle.sched_run.proofs.turns.toward_enter.Goals as goal
 
 pub returns-in_default : goal.returns-in_default
 returns-in_default c = absurd (cc ((grant_needs c.args.fabric.now c.args.actor.core c.args.actor.lane c.requires.grant).3, c.needs.ensures, c.in_default.is))

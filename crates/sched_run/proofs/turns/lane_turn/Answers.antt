@@ -2,13 +2,13 @@ use Rattle.std.proofs.Common.{◌≡◌, ◌<◌, false, length, sym, ap, subst,
 use Rattle.pei_types.specs.Next.{Stalls}
 use Rattle.pei_types.specs.declared.inflight_looks.StallCause.TheVariants as stall
 use Rattle.fabric.specs.History.{History, lane_of, lane_row_of}
-use Rattle.fabric.specs.Turning.{after_turn}
+use Rattle.fabric.specs.Turns.{after_turn}
 use Rattle.inflight.specs.OnTheWay.{IsLaneOf}
-use Rattle.sched_run.specs.Claiming.{claim_in}
-use Rattle.sched_run.specs.Turning.{GoesOn, IsReadyFor}
+use Rattle.sched_run.specs.LaneClaims.{claim_in}
+use Rattle.sched_run.specs.Steps.{GoesOn, IsReadyFor}
 use Rattle.sched_run.proofs.Granting.{did_row, grant_is, grant_not, never_full, stall_row, unspent_by}
 use Rattle.sched_run.proofs.Stepped.{event_goes, spent_goes, stall_goes}
-use Rattle.sched_run.proofs.actors.lane_turn.Goals as goal
+use Rattle.sched_run.proofs.turns.lane_turn.Goals as goal
 
 pub returns-in-Spent : goal.returns-in-Spent
 returns-in-Spent c turns stalls =

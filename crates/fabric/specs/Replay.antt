@@ -9,7 +9,7 @@ use Rattle.pei_types.specs.declared.inflight_looks.PeiLook.{PeiLook}
 use Rattle.pei_types.specs.declared.events.EventKind.{EventKind}
 use Rattle.pei_types.specs.declared.events.EventKind.TheVariants as event
 use Rattle.pei_types.specs.Calls.{CallFits}
-use Rattle.pei_types.specs.Coherence.{entry_is_taken, look_in}
+use Rattle.pei_types.specs.MachineState.{entry_is_taken, look_in}
 use Rattle.pei_types.specs.Guard.{guard}
 use Rattle.pei_types.specs.Next.{Makes, call_row, lane_row}
 use Rattle.pei_types.specs.Turns.{is_entering}

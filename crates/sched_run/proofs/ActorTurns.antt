@@ -14,14 +14,14 @@ use Rattle.pei_types.specs.Laws.{FoldsGrow, StopsOnce}
 use Rattle.pei_types.specs.Next.{Turn as Row, Makes, Stalls}
 use Rattle.pei_types.specs.Program.{Listing}
 use Rattle.pei_types.specs.Schedule.{Run, by_row, program_step, step_of_lane, turn, whole_table}
-use Rattle.core_exec.specs.Standing.{Standing}
+use Rattle.core_exec.specs.CoreView.{Standing}
 use Rattle.fabric.specs.History.{History}
 use Rattle.history_laws.specs.Fits.{AsksForFence}
 use Rattle.history_laws.specs.Runs.{WholeRun}
 use Rattle.machine_laws.specs.Laws.{WholeRunsAreLegal}
 use Rattle.sched_run.specs.EndsAfter.{ends_after}
-use Rattle.sched_run.specs.Tracking.{IsAt, IsRunning, run_in}
-use Rattle.sched_run.specs.Turning.{TookIn, event_of, program_row}
+use Rattle.sched_run.specs.DefinedRun.{IsAt, IsRunning, run_in}
+use Rattle.sched_run.specs.Steps.{TookIn, event_of, program_row}
 use Rattle.sched_run.specs.declared.running.Running.{Running}
 use Rattle.sched_run.proofs.CoreTracking.{next_same, own_next, other_next}
 use Rattle.sched_run.proofs.EndsTracking.{ends_next}
