@@ -22,6 +22,7 @@ mod Splits
 mod Likeness
 mod Stampings
 mod Finding
+mod Between
 mod BankGoing
 mod PartMoves
 mod BankRows

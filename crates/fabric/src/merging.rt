@@ -34,12 +34,12 @@ fn vouch(banks: &[Section])
     }
 }
 
-/// The event with a stamp in any bank.
-fn next_event(banks: &[Section], stamp: u32) -> Option<Event>
+/// The event with a stamp in any bank. `near` has for each bank a place to look at first.
+fn next_event(banks: &[Section], stamp: u32, near: &mut [u32; 8]) -> Option<Event>
     ensures { result ≡ option_map (λ x. x.event) (event_with stamp (logs_of banks.now)) }
 {
     for bank in 0..banks.len() {
-        if let Some(event) = banks[bank].event_with(stamp) {
+        if let Some(event) = banks[bank].event_with(stamp, &mut near[bank % 8]) {
             return Some(event);
         }
     }
@@ -62,8 +62,9 @@ pub(crate) fn replay_all(
 {
     laws();
     vouch(banks);
+    let mut near = [0; 8];
     for stamp in 0..journal.spare() {
-        let Some(event) = next_event(banks, stamp) else {
+        let Some(event) = next_event(banks, stamp, &mut near) else {
             return;
         };
         parts.replay(&event);

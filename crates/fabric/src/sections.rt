@@ -21,6 +21,7 @@ ghost use Rattle.fabric.specs.IssueStamps.{with_issue};
 use crate::looks::CoreLook;
 use crate::moves::{lane_of, program_of};
 use crate::parts::Parts;
+use crate::places::place_near;
 use bank_laws::laws::{banks_go_on, banks_keep_apart, cores_go_on, rows_are_local};
 use coherence_laws::laws::{flat_memory_goes_on, lanes_hold_peis};
 use journal::Journal;
@@ -204,11 +205,12 @@ impl Section {
         }
     }
 
-    /// The event with this stamp, where there is one.
-    pub(crate) fn event_with(&self, stamp: u32) -> Option<Event>
+    /// The event with this stamp, where there is one. `near` is a place to look at first, and becomes the one behind it.
+    pub(crate) fn event_with(&self, stamp: u32, near: &mut u32) -> Option<Event>
         ensures { result ≡ option_map (λ x. x.event) (find (has_stamp stamp) self.now.log) }
     {
-        let place = self.journal.place_of(stamp)?;
+        let place = place_near(&self.journal, stamp, *near)?;
+        *near = place.wrapping_add(1);
         Some(self.journal.get(place))
     }
 

@@ -3,8 +3,8 @@ use Rattle.pei_types.specs.declared.stamps.Stamped.{Stamped}
 use Rattle.fabric.proofs.Finding.{found_at, found_nowhere, some_within, stamps_rise}
 use Rattle.fabric.proofs.sections.Section.event_with.Goals as goal
 
-pub place_of-requires : goal.place_of-requires
-place_of-requires c =
+pub place_near-requires-clause-rising : goal.place_near-requires-clause-rising
+place_near-requires-clause-rising c =
     let j = c.self.inside.journal
     in stamps_rise j.events j.stamps c.self.invariant.stamped c.self.invariant.rising
 
