@@ -6,4 +6,5 @@ pub mod WritingOn
 pub mod FileUses
 pub mod Served
 pub mod RunsServed
+pub mod ThreadsServed
 mod ChecksServed

@@ -1,5 +1,5 @@
 -- A run and its output, as the answer of a command.
-use Rattle.std.proofs.Common.{◌≡◌, ℕ, ◌*◌, ◌<◌, List, Ok, Err, All, None, sym, ◌∙◌, ap, subst}
+use Rattle.std.proofs.Common.{◌≡◌, ℕ, ◌*◌, List, Ok, Err, All, None, sym, ◌∙◌, ap, subst}
 use Rattle.pei_types.specs.declared.events.Event.{Event}
 use Rattle.pei_types.specs.declared.machines.MachineSpec.{MachineSpec}
 use Rattle.pei_types.specs.Ends.{status_of}
@@ -14,7 +14,7 @@ use Rattle.pei_loader.specs.Faults.{IsLoadRefusal}
 use Rattle.pei_loader.specs.declared.faults.LoadFault.{LoadFault}
 use Rattle.pei_loader.specs.declared.faults.LoadFault.TheVariants as load
 use Rattle.report.specs.Shown.{HasWords}
-use Rattle.sched_run.specs.Scheduled.{EndsInTime, IsEndOf, run_of}
+use Rattle.sched_run.specs.Scheduled.{EndsInTime, IsEndOf, SpendsTurns, run_of}
 use Rattle.sched_run.specs.ElevenClauses.{ElevenClauses}
 use Rattle.sched_run.specs.declared.schedule.SchedEnd.{SchedEnd}
 use Rattle.fabric.specs.History.{History}
@@ -34,6 +34,7 @@ pub record Ran (job : Job) (p : Listing) (m : MachineSpec) (image : Contents) (v
   pub legal : Legal p m image v.fabric.journal
   pub laws : ElevenClauses p m image v.fabric.journal
   pub ends : EndsInTime m job.policy job.turns v.fabric.journal
+  pub spends : SpendsTurns m job.policy job.turns v.fabric.journal v.turns
   pub told : status ≡ status_of m v.fabric.journal
 
 -- the journal and the image at the end
@@ -60,6 +61,7 @@ served job p m image v status journal sink ran events written =
       subst (λ (js : List Event). Legal p m image js) is ran.legal,
       subst (λ (js : List Event). ElevenClauses p m image js) is ran.laws,
       subst (λ (js : List Event). EndsInTime m job.policy job.turns js) is ran.ends,
+      subst (λ (js : List Event). SpendsTurns m job.policy job.turns js r.turns) is (subst (λ (n : ℕ). SpendsTurns m job.policy job.turns v.fabric.journal n) ran.end.turns ran.spends),
       whole.0,
     )
 

@@ -1,10 +1,10 @@
--- What the words ask for, of what is built so far.
+-- What the words ask for.
 use Rattle.std.specs.Prelude.{ℕ, List, Option, Some, None, option_and_then, if◌then◌else◌}
 use Rattle.sched_run.specs.declared.policies.Policy.{Policy}
 use Rattle.sched_run.specs.declared.policies.Policy.TheVariants as policy
 use Rattle.pei_io.specs.declared.files.Which.{Which}
 use Rattle.pei_io.specs.declared.files.Which.TheVariants as which
-use Rattle.pei_cli.specs.Commands.{Command, Asm, Sched, Check, Gen, MachineWord, ScheduleWord, InTurn, Serial, Seeded, Output, file_of_machine, is_run, plain_command_of}
+use Rattle.pei_cli.specs.Commands.{Command, Asm, Sched, Run, Check, Gen, MachineWord, ScheduleWord, InTurn, Serial, Seeded, Output, file_of_machine, is_run, command_of, plain_command_of}
 
 -- A scheduled run: the name of the program's file, the machine, who takes the turns, how many at most, and what is written
 -- of it.
@@ -26,14 +26,14 @@ pub record Question : Type 0 where
   pub machine : MachineWord
   pub trace : List ℕ
 
--- what words can ask for
+-- what words can ask the call without threads for
 pub data Asked : Type 0 where
   Runs : Job → Asked
   Checks : Question → Asked
   Prints : (file : List ℕ) → Asked
   Generates : (n : ℕ) → Asked
 
--- of the commands, all but the threaded run are built
+-- of the commands, all but the run by threads
 abbrev pub built : Command → Option Asked
 built (Asm program) = Some (Prints program)
 built (Sched program machine schedule turns output) =
@@ -42,7 +42,7 @@ built (Check program machine trace) = Some (Checks (record { program = program; 
 built (Gen n) = Some (Generates n)
 built _ = None
 
--- what a command asks for, and what the words do, if it is built
+-- what a command asks for, and what the words do, if that is no run by threads
 abbrev pub asked_by : Option Command → Option Asked
 asked_by c = option_and_then built (option_and_then (λ x. if is_run x then None else Some x) c)
 
@@ -58,3 +58,29 @@ file_of (Checks question) which.Machine = file_of_machine question.machine
 file_of (Checks question) which.Trace = Some question.trace
 file_of (Prints file) which.Program = Some file
 file_of _ _ = None
+
+-- ---- with threads
+
+-- A run by threads: the name of the program's file, the machine, and what is written of it.
+pub record ThreadedJob : Type 0 where
+  pub program : List ℕ
+  pub machine : MachineWord
+  pub output : Output
+
+-- of the commands, the run alone
+abbrev pub threaded_job : Command → Option ThreadedJob
+threaded_job (Run program machine output) = Some (record { program = program; machine = machine; output = output })
+threaded_job _ = None
+
+abbrev pub threaded_by : Option Command → Option ThreadedJob
+threaded_by c = option_and_then threaded_job c
+
+-- the run by threads that the words ask for
+abbrev pub threaded_of : List (List ℕ) → Option ThreadedJob
+threaded_of words = threaded_by (command_of words)
+
+-- the name of the file that it has in each place
+abbrev pub threaded_file_of : ThreadedJob → Which → Option (List ℕ)
+threaded_file_of job which.Program = Some job.program
+threaded_file_of job which.Machine = file_of_machine job.machine
+threaded_file_of job which.Trace = None

@@ -5,3 +5,4 @@ pub mod FaultLines
 pub mod VerdictLines
 pub mod Uses
 pub mod Outcomes
+pub mod ThreadedOutcomes

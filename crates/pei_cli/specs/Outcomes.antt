@@ -22,7 +22,7 @@ use Rattle.journal.specs.Recorded.{Recorded}
 use Rattle.journal.specs.Traces.{IsFirstBad, IsTrace}
 use Rattle.machine_file.specs.Faults.{refusal_of}
 use Rattle.machine_file.specs.Machine.{DescribesOf, IsBuiltIn, file_fault, table_of}
-use Rattle.sched_run.specs.Scheduled.{EndsInTime, run_of}
+use Rattle.sched_run.specs.Scheduled.{EndsInTime, SpendsTurns, run_of}
 use Rattle.sched_run.specs.ElevenClauses.{ElevenClauses}
 use Rattle.trace_check.specs.Verdicts.{IsVerdict}
 use Rattle.trace_check.specs.declared.verdicts.Verdict.{Verdict}
@@ -86,10 +86,12 @@ ReadsMachine (FromFile file) u (Err f) = FailsToRead which.Machine file u f
 
 -- ---- reading a trace
 
--- The journal whose trace the file holds, or why there is none: the first bad line, or that it was not read.
+-- The journal whose trace the file holds, or why there is none: the first bad line of a text that is the trace of no journal, or
+-- that it was not read.
 abbrev pub ReadsTrace : List ℕ → FileUse → Result Recorded Fault → Type 0
 ReadsTrace file u (Ok journal) = (text : List ℕ) × IsRead which.Trace u file text × IsTrace text journal.events
-ReadsTrace file u (Err (fault.TraceBad line)) = (text : List ℕ) × IsRead which.Trace u file text × IsFirstBad text line
+ReadsTrace file u (Err (fault.TraceBad line)) =
+    (text : List ℕ) × IsRead which.Trace u file text × IsFirstBad text line × ((journal : List Event) → IsTrace text journal → ⊥)
 ReadsTrace file u (Err f) = FailsToRead which.Trace file u f
 
 -- ---- running a program
@@ -126,13 +128,15 @@ WritesText text sink = Added text sink.before sink.now
 abbrev pub WritesFront : List ℕ → SinkUse → Type 0
 WritesFront text sink = (n : ℕ) × (n ≤ length text) × Added (take n text) sink.before sink.now
 
--- The run of a program on a machine, whose journal is legal and meets each of the eleven clauses, and which ends in time on
--- one core that goes on until it stalls; and what is written of it, or why there is none. Before a fault other than that of writing, nothing was written.
+-- The run of a program on a machine, whose journal is legal and meets each of the eleven clauses, which ends in time on one core
+-- that goes on until it stalls, and which stops before its turns are spent only where it is over; and what is written of it, or
+-- why there is none. Before a fault other than that of writing, nothing was written.
 abbrev pub RunsJob : Job → Listing → MachineSpec → SinkUse → Result PlainEnd Fault → Type 0
 RunsJob job p m sink (Ok end) =
     (image : Contents) × Begins p m image × IsAnswerOf m (run_of_job job p m image) end
     × Legal p m image (run_of_job job p m image).journal × ElevenClauses p m image (run_of_job job p m image).journal
     × EndsInTime m job.policy job.turns (run_of_job job p m image).journal
+    × SpendsTurns m job.policy job.turns (run_of_job job p m image).journal (run_of_job job p m image).turns
     × WritesText (output_text job.output p m image (run_of_job job p m image).journal) sink
 RunsJob job p m sink (Err fault.WriteFault) =
     (image : Contents) × Begins p m image × WritesFront (output_text job.output p m image (run_of_job job p m image).journal) sink × Rose sink.faults sink.faults_now

@@ -1,5 +1,5 @@
 -- What a check ends with: a status, and a line.
-use Rattle.std.specs.Prelude.{ℕ, Bool, true, false, List, [], ◌∷◌, codes, decimal}
+use Rattle.std.specs.Prelude.{ℕ, true, false, List, [], ◌∷◌, codes, decimal}
 use Rattle.pei_types.specs.declared.clauses.Clause.{Clause}
 use Rattle.pei_types.specs.declared.clauses.Clause.TheVariants as clause
 use Rattle.pei_types.specs.Texts.{line}

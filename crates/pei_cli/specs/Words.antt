@@ -4,7 +4,7 @@ use Rattle.pei_types.specs.Limits.{IsWithin}
 use Rattle.pei_types.specs.declared.machines.MachineSpec.{MachineSpec}
 use Rattle.sched_run.specs.Choice.{HasActorsOf}
 use Rattle.pei_cli.specs.Commands.{MachineWord, BuiltIn, FromFile, Output, Report, Trace}
-use Rattle.pei_cli.specs.Jobs.{Job, Asked, Runs, Checks, Prints, Generates, asked_of}
+use Rattle.pei_cli.specs.Jobs.{Job, Asked, Runs, Checks, Prints, Generates, ThreadedJob, asked_of, threaded_of}
 use Rattle.pei_cli.specs.declared.words.Asked.{Asked as Parsed}
 use Rattle.pei_cli.specs.declared.words.Asked.TheVariants as parsed
 use Rattle.pei_cli.specs.declared.words.Machine.{Machine}
@@ -12,6 +12,7 @@ use Rattle.pei_cli.specs.declared.words.Machine.TheVariants as machine
 use Rattle.pei_cli.specs.declared.words.Output.{Output as Written}
 use Rattle.pei_cli.specs.declared.words.Output.TheVariants as output
 use Rattle.pei_cli.specs.declared.words.Run.{Run}
+use Rattle.pei_cli.specs.declared.words.ThreadedRun.{ThreadedRun}
 
 -- the machine of a word: a built-in one, or the file whose name the word is
 abbrev pub machine_as : List ℕ → Machine → MachineWord
@@ -49,3 +50,13 @@ Asks words (Some (parsed.Check k)) =
     (asked_of words ≡ Some (checks_as (get_or words 1 []) (get_or words 2 []) (get_or words 3 []) k)) × (3 < length words) × HasBuiltInCores k
 Asks words (Some parsed.Print) = (asked_of words ≡ Some (Prints (get_or words 1 []))) × (1 < length words)
 Asks words (Some (parsed.Generate n)) = asked_of words ≡ Some (Generates n)
+
+-- a run by threads with the names of its program and, where it is a file, of its machine
+abbrev pub threaded_job_of : List ℕ → List ℕ → ThreadedRun → ThreadedJob
+threaded_job_of program name j = record { program = program; machine = machine_as name j.machine; output = output_as j.output }
+
+-- It is the run by threads that the words ask for; the program is the second word, and the machine the third.
+abbrev pub AsksForThreads : List (List ℕ) → Option ThreadedRun → Type 0
+AsksForThreads words None = threaded_of words ≡ None
+AsksForThreads words (Some j) =
+    (threaded_of words ≡ Some (threaded_job_of (get_or words 1 []) (get_or words 2 []) j)) × (2 < length words) × HasBuiltInCores j.machine

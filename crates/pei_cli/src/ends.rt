@@ -2,6 +2,7 @@
 
 use journal::Journal;
 use pei_types::EndKind;
+use shared_table::Receipt;
 use trace_check::Verdict;
 
 /// What a command came to.
@@ -25,4 +26,18 @@ pub enum PlainEnd {
     Text {
         status: u8,
     },
+}
+
+/// What a run by threads came to.
+#[derive(Drop)]
+pub struct RunEnd {
+    /// 0 where every core halted, 5 where every core has ended and some did not halt, and 6 where the journal is full and
+    /// some core has not ended.
+    pub status: u8,
+    /// All events by their stamps.
+    pub journal: Journal,
+    /// How each core ended, if it did.
+    pub cores: [Option<EndKind>; 8],
+    /// Of each core its events, as its thread had them.
+    pub receipt: Receipt,
 }

@@ -16,6 +16,7 @@ use pei_asm::assemble;
 use pei_io::{Bytes, Files, ReadEnd, Which, read_limited};
 use pei_types::{MachineSpec, Program};
 use std::alloc::Global;
+use trace_laws::laws::traces_have_no_bad_line;
 
 /// The most bytes of a file: of a trace 134,217,728, of the others 1,048,576.
 fn most_bytes(which: Which) -> u32
@@ -95,6 +96,7 @@ pub(crate) fn read_trace_file<F: Files>(
     ensures rising { F.faults files.old Which.Trace ≤ F.faults files.new Which.Trace }
     ensures others { LeavesOthers F.held F.left F.name F.taken F.faults Which.Trace files.old files.new }
 {
+    traces_have_no_bad_line();
     let bytes = read_file(alloc, files, Which::Trace, name)?;
     match read_trace(alloc, bytes.as_slice()) {
         Ok(journal) => Ok(journal),

@@ -1,27 +1,24 @@
 //! Scheduled runs.
 
-ghost use Rattle.std.specs.Prelude.{◌≡◌, ◌≢◌, ◌≤◌, ◌*◌, ℕ, List, All, None, IfErr};
-ghost use Rattle.pei_io.specs.Outside.{Writes};
+ghost use Rattle.std.specs.Prelude.{◌≡◌, ◌≢◌, ◌≤◌, ℕ, List, None, IfErr};
 ghost use Rattle.pei_io.specs.declared.files.Which.{Which};
 ghost use Rattle.sched_run.specs.Choice.{HasActorsOf};
 ghost use Rattle.pei_types.specs.declared.machines.MachineSpec.{MachineSpec};
-ghost use Rattle.pei_types.specs.Ends.{ends_of, status_of};
-ghost use Rattle.report.specs.Shown.{HasWords};
-ghost use Rattle.pei_cli.specs.Words.{HasBuiltInCores, job_of, output_as, runs_as};
+ghost use Rattle.pei_cli.specs.Words.{HasBuiltInCores, job_of, runs_as};
 ghost use Rattle.pei_cli.specs.Jobs.{file_of};
-ghost use Rattle.pei_cli.specs.Outcomes.{RunsJob, Serves, output_text};
+ghost use Rattle.pei_cli.specs.Outcomes.{RunsJob, Serves};
 ghost use Rattle.pei_cli.specs.Uses.{TouchesOnly, file_use, sink_use};
 
 use crate::ends::PlainEnd;
 use crate::faults::{Fault, load_fault};
+use crate::outputs::write_output;
 use crate::reading::{find_machine, read_program};
 use crate::status::run_status;
-use crate::words::{Output, Run};
+use crate::words::Run;
 use pei_io::{Failed, Files, Sink, Which};
 use pei_loader::load;
 use pei_types::{MachineSpec, Program};
-use report::write_report;
-use sched_run::{SchedEnd, run_schedule};
+use sched_run::run_schedule;
 use std::alloc::Global;
 
 /// Runs the program of a file on a machine, which may be that of another file, as the words ask, and writes what they ask
@@ -70,7 +67,15 @@ fn run_program<K: Sink>(
         return Err(Fault::OutOfMemory);
     };
     let status = run_status(machine, end.fabric.journal(), &end.cores);
-    match write_output(program, machine, &end, status, run.output, sink) {
+    match write_output(
+        program,
+        machine,
+        &end.fabric,
+        &end.cores,
+        status,
+        run.output,
+        sink,
+    ) {
         Ok(()) => Ok(PlainEnd::Sched {
             status,
             journal: end.fabric.into_journal(),
@@ -78,25 +83,5 @@ fn run_program<K: Sink>(
             turns: end.turns,
         }),
         Err(Failed) => Err(Fault::WriteFault),
-    }
-}
-
-/// Writes the report of a run, or the trace of its journal.
-fn write_output<K: Sink>(
-    program: &Program,
-    machine: &MachineSpec,
-    end: &SchedEnd,
-    status: u8,
-    output: Output,
-    sink: &mut K,
-) -> Result<(), Failed>
-    requires asks { All (HasWords (64 * end.now.fabric.machine.blocks)) program.now.asks }
-    requires cores { end.now.cores ≡ ends_of end.now.fabric.journal }
-    requires status { status ≡ status_of machine.now end.now.fabric.journal }
-    ensures { Writes (output_text (output_as output) program.now machine.now end.now.fabric.image end.now.fabric.journal) (K.written sink.old) (K.written sink.new) (K.faults sink.old) (K.faults sink.new) result }
-{
-    match output {
-        Output::Report => write_report(program, machine, &end.fabric, &end.cores, status, sink),
-        Output::Trace => end.fabric.journal().write_trace(sink),
     }
 }

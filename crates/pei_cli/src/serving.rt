@@ -23,7 +23,7 @@ use std::alloc::Global;
 ///
 /// PROGRAM and TRACE are files' names. MACHINE is `-1` to `-8`, the built-in machine of that many cores, and any other word is the
 /// name of a machine's file. SEED is `rr`, `serial` or a decimal number below 2^64, and TURNS a decimal number of at most
-/// 1,000,000,000. N is a decimal number below 2^64. Other words are `Usage`.
+/// 1,000,000,000. N is a decimal number below 2^64. Other words are `Usage`, and so are those of `run`, which `threaded` serves.
 ///
 /// Faults come in this order: the words, reading the program, the program, reading the machine, the machine, loading,
 /// reading the trace, the trace, writing. A file is opened only where what comes before it has no fault.

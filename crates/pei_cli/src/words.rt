@@ -3,9 +3,9 @@
 ghost use Rattle.std.specs.Prelude.{◌≡◌, ◌+◌, ◌<◌, [], Some, None, length, get_or, IfSome, option_map, if◌then◌else◌, true};
 ghost use Rattle.pei_types.specs.declared.machines.MachineSpec.{MachineSpec};
 ghost use Rattle.sched_run.specs.Choice.{HasActorsOf};
-ghost use Rattle.pei_cli.specs.Commands.{asm_words, check_words, decimal_below, machine_word, output_words, schedule_word, sched_words, gen_words};
-ghost use Rattle.pei_cli.specs.Jobs.{Generates, Prints, asked_by, policy_of_word};
-ghost use Rattle.pei_cli.specs.Words.{Asks, HasBuiltInCores, checks_as, machine_as, output_as, runs_as};
+ghost use Rattle.pei_cli.specs.Commands.{asm_words, check_words, decimal_below, machine_word, output_words, run_words, schedule_word, sched_words, gen_words};
+ghost use Rattle.pei_cli.specs.Jobs.{Generates, Prints, asked_by, policy_of_word, threaded_by};
+ghost use Rattle.pei_cli.specs.Words.{Asks, AsksForThreads, HasBuiltInCores, checks_as, machine_as, output_as, runs_as, threaded_job_of};
 
 use pei_io::Text;
 use sched_run::Policy;
@@ -13,7 +13,7 @@ use sched_run::Policy;
 /// The most turns that words can ask for.
 const MOST_TURNS: u64 = 1_000_000_000;
 
-/// What words can ask for.
+/// What words can ask for without threads.
 #[derive(Drop)]
 pub(crate) enum Asked {
     /// A scheduled run. Its program is the second word, and its machine the third.
@@ -53,7 +53,14 @@ pub(crate) struct Run {
     pub output: Output,
 }
 
-/// What the words ask for, if it is built.
+/// A run by threads, and what is written of it. Its program is the second word, and its machine the third.
+#[derive(Clone, Copy)]
+pub(crate) struct ThreadedRun {
+    pub machine: Machine,
+    pub output: Output,
+}
+
+/// What the words ask for, if that is no run by threads.
 pub(crate) fn read_words(words: &[Text]) -> Option<Asked>
     ensures { Asks words.now result }
 {
@@ -61,9 +68,20 @@ pub(crate) fn read_words(words: &[Text]) -> Option<Asked>
     match verb.as_str() {
         "asm" if names_program(rest) => Some(Asked::Print),
         "asm" => None,
-        "sched" => Some(Asked::Run(run_words(rest)?)),
+        "sched" => Some(Asked::Run(sched_words(rest)?)),
         "check" => Some(Asked::Check(check_words(rest)?)),
         "gen" => Some(Asked::Generate(generate_words(rest)?)),
+        _ => None,
+    }
+}
+
+/// The run by threads that the words ask for.
+pub(crate) fn read_threaded_words(words: &[Text]) -> Option<ThreadedRun>
+    ensures { AsksForThreads words.now result }
+{
+    let (verb, rest) = words.split_first()?;
+    match verb.as_str() {
+        "run" => run_words(rest),
         _ => None,
     }
 }
@@ -77,7 +95,7 @@ fn names_program(words: &[Text]) -> bool
 }
 
 /// The run that the words behind `sched` ask for.
-fn run_words(words: &[Text]) -> Option<Run>
+fn sched_words(words: &[Text]) -> Option<Run>
     ensures some { IfSome result (λ j. asked_by (sched_words words.now) ≡ Some (runs_as (get_or words.now 0 []) (get_or words.now 1 []) j)) }
     ensures within { IfSome result (λ j. 1 < length words.now) }
     ensures cores { IfSome result (λ j. HasBuiltInCores j.machine) }
@@ -98,7 +116,24 @@ fn run_words(words: &[Text]) -> Option<Run>
     })
 }
 
-/// What a run writes, by the words behind its turns: its report without one, and its trace by the word `trace`.
+/// The run by threads that the words behind `run` ask for.
+fn run_words(words: &[Text]) -> Option<ThreadedRun>
+    ensures some { IfSome result (λ j. threaded_by (run_words words.now) ≡ Some (threaded_job_of (get_or words.now 0 []) (get_or words.now 1 []) j)) }
+    ensures within { IfSome result (λ j. 1 < length words.now) }
+    ensures cores { IfSome result (λ j. HasBuiltInCores j.machine) }
+    ensures none { result ≡ None → threaded_by (run_words words.now) ≡ None }
+{
+    let [_, machine, output @ ..] = words else {
+        return None;
+    };
+    let output = output_named(output)?;
+    Some(ThreadedRun {
+        machine: machine_named(machine.as_str()),
+        output,
+    })
+}
+
+/// What a run writes, by the words behind all others: its report without one, and its trace by the word `trace`.
 fn output_named(words: &[Text]) -> Option<Output>
     ensures { option_map output_as result ≡ output_words words.now }
 {

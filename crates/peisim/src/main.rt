@@ -14,6 +14,7 @@ use std::process::ExitCode;
 fn main(rt: HostRuntime) -> ExitCode {
     let (mut output, mut faults) = (OutSink::make(rt.stdout()), OutSink::make(rt.stderr()));
     ExitCode::from(command(
+        &rt,
         rt.alloc(),
         env::args(&rt),
         &mut DiskFiles::make(&rt),

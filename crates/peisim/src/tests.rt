@@ -6,7 +6,9 @@ use pei_types::OutOfMemory;
 use std::alloc::Global;
 use std::env::Args;
 use std::io::{Error, ErrorKind, Result as IoResult};
+use std::sync::Wait;
 use std::test::Fail;
+use std::thread::Threads;
 
 /// The words of a command, split at spaces, behind the program's name.
 fn words(alloc: Global, command: &str) -> Result<Args, OutOfMemory> {
@@ -27,7 +29,8 @@ struct Ended {
 }
 
 /// Serves the words over a program, where the output takes so many bytes.
-fn served(
+fn served<R: Threads + Wait + Sync>(
+    rt: &R,
     alloc: Global,
     args: IoResult<Args>,
     program: &[u8],
@@ -36,7 +39,7 @@ fn served(
     let mut files = MemFiles::make(alloc, program, b"", b"", 5000, &[])?;
     let mut output = MemSink::make(alloc, room, 5000, &[])?;
     let mut faults = MemSink::make(alloc, 100, 5000, &[])?;
-    let status = command(alloc, args, &mut files, &mut output, &mut faults);
+    let status = command(rt, alloc, args, &mut files, &mut output, &mut faults);
     Ok(Ended {
         status,
         output,
@@ -50,59 +53,103 @@ const SEVEN: &str = ".entry 0, s\ns: li r1, 7\nout r1\nhalt\n";
 /// One core loads from an address that is no multiple of 8.
 const TRAPPED: &str = ".entry 0, s\ns: ld r1, r0, 4\n";
 
-/// Commands with the room of the output, each with its status, its output and the line of its fault.
-const ENDS: [(&str, &str, u32, u8, &str, &str); 6] = [
-    (
-        "sched p -1 rr 1000",
-        SEVEN,
-        100,
-        0,
-        "out 0 7\ncore 0 halt\nstatus 0\n",
-        "",
-    ),
-    (
-        "sched p -1 rr 1000",
-        TRAPPED,
-        100,
-        5,
-        "core 0 trap 0 align\nstatus 5\n",
-        "",
-    ),
-    (
-        "sched p -1 rr 1",
-        SEVEN,
-        100,
-        7,
-        "out 0 7\ncore 0 unfinished\nstatus 7\n",
-        "",
-    ),
-    (
-        "sched p -1 rr 1000",
-        "halt\nx",
-        100,
-        3,
-        "",
-        "program bad 2:1 UnknownName\n",
-    ),
-    ("sched p -1 rr 1000", SEVEN, 3, 9, "out", "write fault\n"),
-    (
-        "sched p -1 rr",
-        SEVEN,
-        100,
-        2,
-        "",
-        "usage: peisim asm or sched or run or check or gen\n",
-    ),
+/// The line of a fault of words.
+const USAGE: &str = "usage: peisim asm or sched or run or check or gen\n";
+
+/// A command over a program, with the room of its output in bytes, and what it ends with.
+#[derive(Clone, Copy)]
+struct Row {
+    command: &'static str,
+    program: &'static str,
+    room: u32,
+    status: u8,
+    output: &'static str,
+    line: &'static str,
+}
+
+const ROW: Row = Row {
+    command: "sched p -1 rr 1000",
+    program: SEVEN,
+    room: 100,
+    status: 0,
+    output: "out 0 7\ncore 0 halt\nstatus 0\n",
+    line: "",
+};
+
+const ENDS: [Row; 9] = [
+    ROW,
+    Row {
+        program: TRAPPED,
+        status: 5,
+        output: "core 0 trap 0 align\nstatus 5\n",
+        ..ROW
+    },
+    Row {
+        command: "sched p -1 rr 1",
+        status: 7,
+        output: "out 0 7\ncore 0 unfinished\nstatus 7\n",
+        ..ROW
+    },
+    Row {
+        program: "halt\nx",
+        status: 3,
+        output: "",
+        line: "program bad 2:1 UnknownName\n",
+        ..ROW
+    },
+    Row {
+        room: 3,
+        status: 9,
+        output: "out",
+        line: "write fault\n",
+        ..ROW
+    },
+    Row {
+        command: "sched p -1 rr",
+        status: 2,
+        output: "",
+        line: USAGE,
+        ..ROW
+    },
+    Row {
+        command: "run p -1",
+        ..ROW
+    },
+    Row {
+        command: "run p -1",
+        room: 3,
+        status: 9,
+        output: "out",
+        line: "write fault\n",
+        ..ROW
+    },
+    Row {
+        command: "run p",
+        status: 2,
+        output: "",
+        line: USAGE,
+        ..ROW
+    },
 ];
 
 #[test]
 fn commands_end_with_status_and_line(rt: HostRuntime) -> Result<(), Fail> {
-    for (command, program, room, status, output, line) in ENDS {
-        let args = Ok(words(rt.alloc(), command)?);
-        let ended = served(rt.alloc(), args, program.as_bytes(), room)?;
-        assert_eq!(rt; ended.status, status, "{command}");
-        assert_eq!(rt; ended.output.bytes(), output.as_bytes(), "{command}");
-        assert_eq!(rt; ended.faults.bytes(), line.as_bytes(), "{command}");
+    for row in ENDS {
+        let args = Ok(words(rt.alloc(), row.command)?);
+        let ended = served(&rt, rt.alloc(), args, row.program.as_bytes(), row.room)?;
+        assert_eq!(rt; ended.status, row.status, "{}", row.command);
+        assert_eq!(rt;
+            ended.output.bytes(),
+            row.output.as_bytes(),
+            "{}",
+            row.command
+        );
+        assert_eq!(rt;
+            ended.faults.bytes(),
+            row.line.as_bytes(),
+            "{}",
+            row.command
+        );
     }
     Ok(())
 }
@@ -110,14 +157,10 @@ fn commands_end_with_status_and_line(rt: HostRuntime) -> Result<(), Fail> {
 #[test]
 fn words_that_cannot_be_had_are_a_fault(rt: HostRuntime) -> Result<(), Fail> {
     for (kind, status, line) in [
-        (
-            ErrorKind::InvalidData,
-            2,
-            "usage: peisim asm or sched or run or check or gen\n",
-        ),
+        (ErrorKind::InvalidData, 2, USAGE),
         (ErrorKind::OutOfMemory, 10, "out of memory\n"),
     ] {
-        let ended = served(rt.alloc(), Err(Error::from(kind)), b"", 100)?;
+        let ended = served(&rt, rt.alloc(), Err(Error::from(kind)), b"", 100)?;
         assert_eq!(rt; ended.status, status, "{kind:?}");
         assert_eq!(rt; ended.output.bytes(), b"".as_slice(), "{kind:?}");
         assert_eq!(rt; ended.faults.bytes(), line.as_bytes(), "{kind:?}");

@@ -1,15 +1,15 @@
 -- A run by a schedule, from its start to its end.
-use Rattle.std.proofs.Common.{◌≡◌, ℕ, zero, suc, ◌+◌, ◌<◌, ◌≤◌, ◌-◌, ◌==◌, Bool, true, false, ◌||◌, ◌&&◌, if◌then◌else◌, IsTrue, List, [], length, map, take, slice_get, is_some, Some, None, refl, sym, ◌∙◌, ap, subst, arith}
+use Rattle.std.proofs.Common.{inl, inr, ◌⊎◌, get_or, Option, ◌≡◌, ℕ, zero, suc, ◌+◌, ◌<◌, ◌≤◌, ◌-◌, ◌==◌, Bool, true, false, ◌||◌, ◌&&◌, if◌then◌else◌, IsTrue, List, [], length, map, take, slice_get, is_some, Some, None, refl, sym, ◌∙◌, ap, subst, arith}
 use Rattle.std.specs.List.{All, list_all, range_with_len}
 use Rattle.std.proofs.lemmas.Bool.Decides.{nat_tests}
-use Rattle.std.proofs.lemmas.Option.{get_or_from_slice_get, slice_get_within}
+use Rattle.std.proofs.lemmas.Option.{get_or_from_slice_get, slice_get_cases, slice_get_within}
 use Rattle.std.proofs.lemmas.List.Elements.{All-get_or}
 use Rattle.pei_types.specs.declared.identifiers.Actor.{Actor}
 use Rattle.pei_types.specs.declared.identifiers.CoreId.{CoreId}
 use Rattle.pei_types.specs.declared.events.Event.{Event}
 use Rattle.pei_types.specs.declared.machines.MachineSpec.{MachineSpec}
 use Rattle.pei_types.specs.Calls.{is_actor_of}
-use Rattle.pei_types.specs.Ends.{end_of, all_ended, ends_of, status_of}
+use Rattle.pei_types.specs.Ends.{end_of, all_ended, all_halted, ends_of, status_of}
 use Rattle.pei_types.specs.Legal.{Legal}
 use Rattle.fabric.specs.History.{History}
 use Rattle.machine_laws.specs.Laws.{WholeRunsAreLegal}
@@ -20,7 +20,7 @@ use Rattle.history_laws.specs.Laws.{PoliciesChooseActors}
 use Rattle.history_laws.specs.Sound.{ChoosesActors}
 use Rattle.sched_run.specs.Choice.{policy_of, HasActorsOf}
 use Rattle.sched_run.specs.ElevenClauses.{ElevenClauses}
-use Rattle.sched_run.specs.Scheduled.{EndsInTime, IsAfter, IsEndOf, run_of}
+use Rattle.sched_run.specs.Scheduled.{EndsInTime, IsAfter, IsEndOf, SpendsTurns, run_of}
 use Rattle.sched_run.specs.DefinedRun.{IsRunning, is_over, run_in}
 use Rattle.sched_run.specs.declared.policies.Policy.{Policy as Chosen}
 use Rattle.sched_run.specs.declared.policies.Policy.TheVariants as chosen
@@ -166,3 +166,49 @@ ended_in_time laws p m image policy turns v end =
       not_spent = λ one serial enough. subst (λ (c : Chosen). status_of m (run_of p m image c turns).journal ≡ 7 → ⊥) (sym serial) (laws.not_spent p m image turns one enough);
       not_full = λ one serial room. subst (λ (c : Chosen). status_of m (run_of p m image c turns).journal ≡ 6 → ⊥) (sym serial) (laws.not_full p m image turns one room);
     })
+
+-- ---- whether the turns are spent
+
+-- a run that is over is not told as one with its turns spent
+not_7 : (m : MachineSpec) (journal : List Event) → (all_ended m journal || (length journal == m.events)) ≡ true → status_of m journal ≡ 7 → ⊥
+not_7 m journal over = by (all_ended m journal) (all_halted m journal) (length journal == m.events) over
+  where
+    by : (a h f : Bool) → (a || f) ≡ true → ◌≡◌ {A = ℕ} (if a then (if h then 0 else 5) else (if f then 6 else 7)) 7 → ⊥
+    by true true f e s = cc s
+    by true false f e s = cc s
+    by false h true e s = cc s
+    by false h false e s = cc e
+
+none_of_7 : (m : MachineSpec) (policy : Chosen) (turns : ℕ) (journal : List Event) (made : ℕ) → (status_of m journal ≡ 7 → ⊥) → SpendsTurns m policy turns journal made
+none_of_7 m chosen.RoundRobin turns journal made other = λ e. absurd (other e)
+none_of_7 m chosen.Serial turns journal made other = λ e. absurd (other e)
+none_of_7 m (chosen.Seeded seed) turns journal made other = λ e. absurd (other e)
+none_of_7 m (chosen.List actors) turns journal made other = λ e. absurd (other e)
+
+pub unspent_over : (p : Listing) (policy : Chosen) (turns made : ℕ) (v : Running) → IsRunning p v → is_over v ≡ true → SpendsTurns v.fabric.machine policy turns v.fabric.journal made
+unspent_over p policy turns made v on over =
+    none_of_7 v.fabric.machine policy turns v.fabric.journal made (not_7 v.fabric.machine v.fabric.journal (sym (over_is p v on) ∙ over))
+
+-- a policy that chooses nobody is a list at its end
+pub unchosen_spent : (m k : MachineSpec) (policy : Chosen) (turns : ℕ) (journal : List Event) (made stalls : ℕ) → policy_of m policy made stalls ≡ None → SpendsTurns k policy turns journal made
+unchosen_spent m k chosen.RoundRobin turns journal made stalls none = absurd (cc none)
+unchosen_spent m k chosen.Serial turns journal made stalls none = absurd (cc none)
+unchosen_spent m k (chosen.Seeded seed) turns journal made stalls none = absurd (cc none)
+unchosen_spent m k (chosen.List actors) turns journal made stalls none = λ e. inr (at_end actors made none)
+  where
+    at_end : (list : List Actor) (i : ℕ) → slice_get list i ≡ None → length list ≤ i
+    at_end list i absent = by (slice_get_cases list i).1
+      where
+        by : ((x : Actor) × (i < length list) × (slice_get list i ≡ Some x) × (get_or list i x ≡ x)) ⊎ ((length list ≤ i) × (slice_get list i ≡ None)) → length list ≤ i
+        by (inl (x, within, found, same)) = absurd (cc (sym absent ∙ found))
+        by (inr (past, none)) = past
+
+pub all_spent : (m : MachineSpec) (policy : Chosen) (turns : ℕ) (journal : List Event) → SpendsTurns m policy turns journal turns
+all_spent m chosen.RoundRobin turns journal = λ e. refl
+all_spent m chosen.Serial turns journal = λ e. refl
+all_spent m (chosen.Seeded seed) turns journal = λ e. refl
+all_spent m (chosen.List actors) turns journal = λ e. inl refl
+
+pub ended_spent : (p : Listing) (m : MachineSpec) (image : Contents) (policy : Chosen) (turns made : ℕ) (start now : Running) → start.fabric ≡ record { machine = m; image = image; journal = [] } → IsAfter p policy turns made start now → SpendsTurns now.fabric.machine policy turns now.fabric.journal made → SpendsTurns m policy turns now.fabric.journal made
+ended_spent p m image policy turns made start now from at spent =
+    subst (λ (k : MachineSpec). SpendsTurns k policy turns now.fabric.journal made) (at.machine ∙ ap (λ (h : History). h.machine) from) spent

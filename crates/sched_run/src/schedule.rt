@@ -5,7 +5,7 @@ ghost use Rattle.pei_types.specs.Legal.{Legal};
 ghost use Rattle.pei_types.specs.Schedule.{run_at_start};
 ghost use Rattle.sched_run.specs.Choice.{HasActorsOf};
 ghost use Rattle.sched_run.specs.ElevenClauses.{ElevenClauses};
-ghost use Rattle.sched_run.specs.Scheduled.{EndsInTime, IsAfter, IsEndOf, run_of};
+ghost use Rattle.sched_run.specs.Scheduled.{EndsInTime, IsAfter, IsEndOf, run_of, SpendsTurns};
 ghost use Rattle.sched_run.specs.DefinedRun.{IsRunning, run_in};
 
 use crate::policies::Policy;
@@ -44,6 +44,7 @@ pub fn run_schedule(
     ensures legal { IfOk result (λ v. Legal program.now spec.now image.now v.fabric.journal) }
     ensures laws { IfOk result (λ v. ElevenClauses program.now spec.now image.now v.fabric.journal) }
     ensures ends_in_time { IfOk result (λ v. EndsInTime spec.now policy.now turns v.fabric.journal) }
+    ensures spends { IfOk result (λ v. SpendsTurns spec.now policy.now turns v.fabric.journal v.turns) }
 {
     machine_laws::laws::whole_runs_are_legal();
     progress_laws::laws::serial_runs_end();
@@ -61,7 +62,8 @@ fn play(running: &mut Running, program: &Program, policy: &Policy, turns: u64) -
     requires actors { HasActorsOf running.old.fabric.machine policy.now }
     requires start { run_in running.old 0 ≡ run_at_start running.old.fabric.machine }
     requires running { IsRunning program.now running.old }
-    ensures { IsAfter program.now policy.now turns result running.old running.new }
+    ensures after { IsAfter program.now policy.now turns result running.old running.new }
+    ensures spends { SpendsTurns running.new.fabric.machine policy.now turns running.new.fabric.journal result }
 {
     policies_choose_actors();
     let machine = running.fabric.machine();

@@ -21,6 +21,7 @@ returns-in-Ok-write_output-clause-runs g c file name =
       legal = c.in-Ok-run_schedule.ensures.legal;
       laws = c.in-Ok-run_schedule.ensures.laws;
       ends = c.in-Ok-run_schedule.ensures.ends_in_time;
+      spends = c.in-Ok-run_schedule.ensures.spends;
       told = c.run_status-status.ensures ∙ ap (status_of c.args.machine.now) c.journal.ensures.events;
     })
     c.into_journal.ensures.events c.in-Ok-write_output.ensures
@@ -35,6 +36,7 @@ returns-clause-runs g c file name =
       legal = c.in-Ok-run_schedule.ensures.legal;
       laws = c.in-Ok-run_schedule.ensures.laws;
       ends = c.in-Ok-run_schedule.ensures.ends_in_time;
+      spends = c.in-Ok-run_schedule.ensures.spends;
       told = c.run_status-status.ensures ∙ ap (status_of c.args.machine.now) c.journal.ensures.events;
     })
     c.in-Err-write_output.ensures

@@ -2,15 +2,15 @@ use Rattle.std.proofs.Common.{IsTrue, sym, ◌∙◌, ap, subst, arith, rules}
 use Rattle.pei_types.specs.declared.machines.MachineSpec.{MachineSpec}
 use Rattle.pei_types.specs.Calls.{is_actor_of}
 use Rattle.sched_run.specs.Choice.{policy_of}
-use Rattle.sched_run.proofs.Played.{chooses, room_left, went_on, stopped_over, stopped_unchosen, used_up}
+use Rattle.sched_run.proofs.Played.{all_spent, chooses, room_left, went_on, stopped_over, stopped_unchosen, unchosen_spent, unspent_over, used_up}
 use Rattle.sched_run.proofs.schedule.play.Goals as goal
 
-pub returns-then-is_over : goal.returns-then-is_over
-returns-then-is_over c =
+pub returns-then-is_over-clause-after : goal.returns-then-is_over-clause-after
+returns-then-is_over-clause-after c =
     stopped_over c.args.program.now c.args.policy.now c.loop-made.made c.args.turns c.args.running.now c.loop-made.running c.loop-made.invariant.so_far (search rules) (sym c.is_over.ensures.over ∙ c.if-is_over.true)
 
-pub returns-in_default : goal.returns-in_default
-returns-in_default c =
+pub returns-in_default-clause-after : goal.returns-in_default-clause-after
+returns-in_default-clause-after c =
     stopped_unchosen c.args.program.now c.args.policy.now c.loop-made.made c.args.turns c.args.running.now c.loop-made.running c.loop-made.invariant.so_far (search rules) (sym c.is_over.ensures.over ∙ c.if-is_over.false)
     (ap (λ (m : MachineSpec). policy_of m c.args.policy.now c.loop-made.made c.loop-made.running.stalls) (sym c.machine-machine.ensures) ∙ sym c.in_default.ensures.actor)
 
@@ -31,5 +31,17 @@ loop-made-preserved c = record {
   stalls = omega (arith, c.turn.ensures.stalls, c.loop-made.invariant.stalls);
 }
 
-pub returns : goal.returns
-returns c = used_up c.args.program.now c.args.policy.now c.loop-made.made c.args.turns c.args.running.now c.loop-made.running c.loop-made.invariant.so_far (search rules)
+pub returns-clause-after : goal.returns-clause-after
+returns-clause-after c = used_up c.args.program.now c.args.policy.now c.loop-made.made c.args.turns c.args.running.now c.loop-made.running c.loop-made.invariant.so_far (search rules)
+
+pub returns-then-is_over-clause-spends : goal.returns-then-is_over-clause-spends
+returns-then-is_over-clause-spends c =
+    unspent_over c.args.program.now c.args.policy.now c.args.turns c.loop-made.made c.loop-made.running c.loop-made.invariant.so_far.running (sym c.is_over.ensures.over ∙ c.if-is_over.true)
+
+pub returns-in_default-clause-spends : goal.returns-in_default-clause-spends
+returns-in_default-clause-spends c =
+    unchosen_spent c.args.running.now.fabric.machine c.loop-made.running.fabric.machine c.args.policy.now c.args.turns c.loop-made.running.fabric.journal c.loop-made.made c.loop-made.running.stalls
+    (ap (λ (m : MachineSpec). policy_of m c.args.policy.now c.loop-made.made c.loop-made.running.stalls) (sym c.machine-machine.ensures) ∙ sym c.in_default.ensures.actor)
+
+pub returns-clause-spends : goal.returns-clause-spends
+returns-clause-spends c = all_spent c.loop-made.running.fabric.machine c.args.policy.now c.args.turns c.loop-made.running.fabric.journal
