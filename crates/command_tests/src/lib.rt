@@ -1,10 +1,13 @@
-//! Tests of the top call: whole programs, machines and traces in memory, by the public calls of `pei_cli` alone.
+//! Tests of the top call: whole programs, machines and traces in memory, by the public calls of `pei_cli` alone; and one of a
+//! run by threads, for what no command tells.
 //!
 //! Expected reports, traces and verdicts are worked out by hand from the definitions of the machine.
 #![tactic(auto)]
 
 #[cfg(test)]
 mod bank_tests;
+#[cfg(test)]
+mod body_tests;
 #[cfg(test)]
 mod check_tests;
 #[cfg(test)]
@@ -25,3 +28,5 @@ mod refusal_tests;
 mod run_tests;
 #[cfg(test)]
 mod text_tests;
+#[cfg(test)]
+mod thread_tests;
