@@ -1,7 +1,7 @@
 //! Scheduled runs on machines of several banks are those on one bank.
 
 use crate::commands::{Served, serve, status};
-use crate::run_tests::{RAISE_APART, RAISED_APART};
+use crate::programs::{RAISE_APART, RAISED_APART};
 use pei_cli::PlainEnd;
 use std::test::Fail;
 

@@ -3,7 +3,7 @@
 ghost use Rattle.std.specs.Prelude.{◌≤◌, ◌<◌, length};
 
 use crate::commands::{Served, serve};
-use crate::narrow_tests::NARROW;
+use crate::programs::NARROW;
 use itoa::Buffer;
 use pei_cli::{Fault, PlainEnd, Verdict};
 use pei_types::OutOfMemory;

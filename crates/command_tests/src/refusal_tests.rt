@@ -1,8 +1,7 @@
 //! Words, programs and machines that are refused, and the line of each fault.
 
 use crate::commands::{serve, status};
-use crate::programs::RAISE;
-use crate::run_tests::RAISE_BY_ALL;
+use crate::programs::{RAISE, RAISE_BY_ALL};
 use pei_asm::{AsmFault, AsmKind};
 use pei_cli::{Fault, LoadFault, status_of, write_fault};
 use pei_io::{MemSink, Which};

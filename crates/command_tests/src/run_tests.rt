@@ -3,16 +3,14 @@
 //! The rows of `runs_are_reported` take each step that can want memory, with ample memory.
 
 use crate::commands::{serve, serve_by, status};
-use crate::programs::{RAISE, RAISE_TRACE, RAISED};
+use crate::programs::{
+    RAISE, RAISE_APART, RAISE_BY_ALL, RAISE_HUNDRED, RAISE_TRACE, RAISED, RAISED_APART,
+};
 use pei_cli::PlainEnd;
 use std::test::Fail;
 
 /// One core puts 7 out.
 const SEVEN: &[u8] = b".entry 0, s\ns: li r1, 7\nout r1\nhalt\n";
-
-/// Each core raises the same word three times.
-pub(crate) const RAISE_BY_ALL: &[u8] =
-    b".entry *, s\n.show 4096, 1\ns: li r1, 4096\npinc r1, 0\npinc r1, 0\npinc r1, 0\npfence\nhalt\n";
 
 /// One core raises a word three times: twice in memory, and then at the host.
 const RAISE_THRICE: &[u8] =
@@ -27,20 +25,6 @@ status 0\n";
 
 /// One core loads a word that an operation of its own has yet to raise.
 const RACING: &[u8] = b".entry 0, s\ns: li r1, 4096\npinc r1, 0\nld r2, r1, 0\nout r2\nhalt\n";
-
-/// Each core raises the same word a hundred times.
-const RAISE_HUNDRED: &[u8] =
-    b".entry *, s\ns: li r1, 4096\nli r2, 100\nloop: pinc r1, 0\naddi r2, r2, -1\n\
-bne r2, r0, loop\npfence\nhalt\n";
-
-/// Two cores raise words of two blocks, 64 and 67.
-pub(crate) const RAISE_APART: &[u8] =
-    b".entry 0, a\n.entry 1, b\n.show 4096, 1\n.show 4288, 1\na: li r1, 4096\npinc r1, 0\nhalt\n\
-b: li r1, 4288\npinc r1, 0\nhalt\n";
-
-/// What `RAISE_APART` writes.
-pub(crate) const RAISED_APART: &[u8] =
-    b"core 0 halt\ncore 1 halt\nmem 4096 1\nmem 4288 1\nstatus 0\n";
 
 /// A run.
 struct Row {
