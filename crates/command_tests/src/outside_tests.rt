@@ -1,8 +1,9 @@
 //! Commands whose files and sink fail, move a byte at a time, or have as many bytes as there may be.
 
-use crate::commands::{serve, serve_by, status};
+use crate::commands::{Served, serve, serve_by, status};
 use crate::programs::{RAISE, RAISE_TRACE, RAISED};
 use pei_cli::Fault;
+use pei_io::Which;
 use pei_types::OutOfMemory;
 use std::alloc::Global;
 use std::test::Fail;
@@ -157,23 +158,88 @@ fn reads_and_writes_fail_where_asked(rt: HostRuntime) -> Result<(), Fail> {
 /// A machine of one core.
 const ONE_CORE: &[u8] = b"cores=1\nblocks=128\n";
 
-/// Commands, each with what it writes, or what that begins with.
-const COMMANDS: [(&str, &[u8]); 5] = [
-    ("sched p m rr 1000", b"out 0 1\ncore 0 halt\nstatus 0\n"),
-    ("sched p m rr 1000 trace", RAISE_TRACE),
-    (
-        "asm p",
-        b".entry 0, L0\nL0: li r1, 4096\npinc r1, 0\npfence\nld r2, r1, 0\nout r2\nhalt\n",
-    ),
-    ("check p m t", b"legal complete\n"),
-    ("gen 0", b".entry *, start\n.sum 65536, 4096\n"),
+/// A command over the files of `RAISE`, with the files that it reads in order.
+struct Case {
+    command: &'static str,
+    reads: &'static [Which],
+    /// What it writes, or what that begins with.
+    output: &'static [u8],
+}
+
+const CASES: [Case; 5] = [
+    Case {
+        command: "sched p m rr 1000",
+        reads: &[Which::Program, Which::Machine],
+        output: RAISED,
+    },
+    Case {
+        command: "sched p m rr 1000 trace",
+        reads: &[Which::Program, Which::Machine],
+        output: RAISE_TRACE,
+    },
+    Case {
+        command: "asm p",
+        reads: &[Which::Program],
+        output: b".entry 0, L0\nL0: li r1, 4096\npinc r1, 0\npfence\nld r2, r1, 0\nout r2\nhalt\n",
+    },
+    Case {
+        command: "check p m t",
+        reads: &[Which::Program, Which::Machine, Which::Trace],
+        output: b"legal complete\n",
+    },
+    Case {
+        command: "gen 0",
+        reads: &[],
+        output: b".entry *, start\n.sum 65536, 4096\n",
+    },
 ];
 
-/// Each command, by reads and writes of one byte or of many, with one of its first eight reads or writes that fails: it ends as it
-/// does without the failure, or with the fault of its kind, before which a front of its output was written, or nothing.
+/// The file that read number `k`, at most 8, is of, where a command reads these. By reads of one byte it is of the first file,
+/// which has more bytes; else each file has two reads, of which the second meets its end.
+fn file_of_read(reads: &[Which], most: u32, k: u32) -> Option<Which> {
+    let place = if most == 1 {
+        0
+    } else {
+        k.saturating_sub(1) / 2
+    };
+    reads.get(place as usize).copied()
+}
+
+/// Whether a command whose read `k` fails ends with the fault of that file, and nothing written; or as it does without the
+/// failure, where it has no such read.
+fn tells_read(served: &Served, text: &[u8], file: Option<Which>) -> bool {
+    let written = served.sink.bytes();
+    match &served.result {
+        Ok(_) => file.is_none() && written == text,
+        Err(Fault::ReadFault { which }) => file == Some(*which) && written.is_empty(),
+        Err(_) => false,
+    }
+}
+
+/// Whether a command whose write `k` fails ends with the fault, and a front of its output written; or as it does without the
+/// failure, where it has no such write. By writes of one byte it has more than 8, and the front is all before the failure.
+fn tells_write(served: &Served, text: &[u8], most: u32, k: u32) -> bool {
+    let written = served.sink.bytes();
+    match &served.result {
+        Ok(_) => most > 1 && k > 1 && written == text,
+        Err(Fault::WriteFault) => {
+            let len = written.len();
+            text.starts_with(written)
+                && if most == 1 {
+                    len == k.saturating_sub(1) as usize
+                } else {
+                    len < text.len()
+                }
+        }
+        Err(_) => false,
+    }
+}
+
+/// Each command, by reads and writes of one byte or of many, with one of its first eight reads or writes that fails.
 #[test]
 fn outside_faults_are_told(rt: HostRuntime) -> Result<(), Fail> {
-    for (command, output) in COMMANDS {
+    for case in &CASES {
+        let command = case.command;
         for most in [1u32, 5000] {
             assert!(rt; most > 0);
             let whole = serve_by(
@@ -188,32 +254,39 @@ fn outside_faults_are_told(rt: HostRuntime) -> Result<(), Fail> {
             )?;
             let text = whole.sink.bytes();
             assert!(rt;
-                whole.result.is_ok() && text.starts_with(output),
-                "{command}"
+                whole.result.is_ok() && text.starts_with(case.output),
+                "{command} {most}"
             );
             for k in 1u32..9 {
-                for (read, write) in [(k, 0), (0, k)] {
-                    let served = serve_by(
-                        rt.alloc(),
-                        command,
-                        RAISE,
-                        ONE_CORE,
-                        RAISE_TRACE,
-                        most,
-                        read,
-                        write,
-                    )?;
-                    let written = served.sink.bytes();
-                    let rightly = match &served.result {
-                        Ok(_) => written == text,
-                        Err(Fault::ReadFault { .. }) => read == k && written.is_empty(),
-                        Err(Fault::WriteFault) => {
-                            write == k && written.len() < text.len() && text.starts_with(written)
-                        }
-                        Err(_) => false,
-                    };
-                    assert!(rt; rightly, "{command} {most} {read} {write}");
-                }
+                let file = file_of_read(case.reads, most, k);
+                let served = serve_by(
+                    rt.alloc(),
+                    command,
+                    RAISE,
+                    ONE_CORE,
+                    RAISE_TRACE,
+                    most,
+                    k,
+                    0,
+                )?;
+                assert!(rt;
+                    tells_read(&served, text, file),
+                    "{command} {most} read {k}"
+                );
+                let served = serve_by(
+                    rt.alloc(),
+                    command,
+                    RAISE,
+                    ONE_CORE,
+                    RAISE_TRACE,
+                    most,
+                    0,
+                    k,
+                )?;
+                assert!(rt;
+                    tells_write(&served, text, most, k),
+                    "{command} {most} write {k}"
+                );
             }
         }
     }
