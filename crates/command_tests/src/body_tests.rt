@@ -141,3 +141,23 @@ fn the_last_line_is_the_victim(rt: HostRuntime) -> Result<(), Fail> {
     }
     Ok(())
 }
+
+/// While a PEI on block 64 is on its way, its core loads a word of block 2, which lies in the same vault, and whose number folds
+/// to the same chain of PEIs.
+const BESIDE_A_PEI: Worked = Worked {
+    program: b".entry 0, s\ns: pinc r0, 4096\nld r2, r0, 128\nout r2\nhalt\n",
+    machine: b"cores=1\nblocks=128\nvaults=1\nbuffer=1\nplacement='memory'\n",
+    trace: b"peisim-trace 1 mesi\n0.0 issue 0 1 pinc 4096 0 0 0 0\n0.0 fill 2\n0.0 grante 2\n0.1 enter 0\n\
+0.0 load 128 0\n0.1 place 0 memory\n0.0 out 0\n0.1 seal 0 0\n0.1 act 0 0 0 0\n0.1 leave 0\n0.0 end halt\n",
+    report: b"out 0 0\ncore 0 halt\nstatus 0\n",
+};
+
+/// Where an access races with each PEI of its vault, or of its chain, the core ends with a race.
+#[test]
+fn an_access_of_another_block_is_made(rt: HostRuntime) -> Result<(), Fail> {
+    let (report, trace) = both(rt.alloc(), &BESIDE_A_PEI)?;
+    assert_eq!(rt; trace.sink.bytes(), BESIDE_A_PEI.trace);
+    assert_eq!(rt; report.sink.bytes(), BESIDE_A_PEI.report);
+    assert_eq!(rt; status(&report), 0);
+    Ok(())
+}
