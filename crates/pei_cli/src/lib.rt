@@ -22,14 +22,3 @@ pub use pei_loader::LoadFault;
 pub use serving::plain;
 pub use threading::threaded;
 pub use trace_check::Verdict;
-
-#[cfg(test)]
-mod bank_tests;
-#[cfg(test)]
-mod check_tests;
-#[cfg(test)]
-mod litmus_tests;
-#[cfg(test)]
-mod outside_tests;
-#[cfg(test)]
-mod tests;

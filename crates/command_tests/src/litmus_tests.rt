@@ -1,6 +1,6 @@
 //! Litmus programs, with the outcomes that docs/LITMUS.md tells. The programs are those of examples/litmus/.
 
-use crate::tests::{serve, status};
+use crate::commands::{serve, status};
 use std::test::Fail;
 
 /// Core 0 increments a word and sets a flag by a store. Core 1 waits for the flag and reads the word by a PEI.
@@ -61,104 +61,117 @@ const MEMORY: &str =
     "cores = 2\nblocks = 4096\nl1_sets = 4\nl1_ways = 2\nllc_sets = 16\nllc_ways = 4\nvaults = 4\n\
 queue = 4\ndirectory = 64\nbuffer = 4\nfuel = 10000\nevents = 262144\nplacement = 'memory'\n";
 
+/// A run of a litmus program.
+struct Outcome {
+    command: &'static str,
+    program: &'static str,
+    machine: &'static str,
+    /// What it writes.
+    want: &'static str,
+    status: u8,
+}
+
 /// Commands over a program and a machine, what is written, and the status.
-const OUTCOMES: [(&str, &str, &str, &str, u8); 10] = [
+const OUTCOMES: [Outcome; 10] = [
     // the flag is seen and the old word is read
-    (
-        "sched p -2 45 100000",
-        MESSAGE,
-        "",
-        "core 0 halt\nout 1 0\ncore 1 halt\nstatus 0\n",
-        0,
-    ),
+    Outcome {
+        command: "sched p -2 45 100000",
+        program: MESSAGE,
+        machine: "",
+        want: "core 0 halt\nout 1 0\ncore 1 halt\nstatus 0\n",
+        status: 0,
+    },
     // never behind a fence
-    (
-        "sched p -2 45 100000",
-        MESSAGE_FENCE,
-        "",
-        "core 0 halt\nout 1 1\ncore 1 halt\nstatus 0\n",
-        0,
-    ),
+    Outcome {
+        command: "sched p -2 45 100000",
+        program: MESSAGE_FENCE,
+        machine: "",
+        want: "core 0 halt\nout 1 1\ncore 1 halt\nstatus 0\n",
+        status: 0,
+    },
     // the load races
-    (
-        "sched p -2 6 100000",
-        MESSAGE_LOAD,
-        "",
-        "core 0 halt\ncore 1 race 6 64 0 0\nstatus 5\n",
-        5,
-    ),
+    Outcome {
+        command: "sched p -2 6 100000",
+        program: MESSAGE_LOAD,
+        machine: "",
+        want: "core 0 halt\ncore 1 race 6 64 0 0\nstatus 5\n",
+        status: 5,
+    },
     // and does not behind a fence
-    (
-        "sched p -2 6 100000",
-        MESSAGE_FENCE_LOAD,
-        "",
-        "core 0 halt\nout 1 1\ncore 1 halt\nstatus 0\n",
-        0,
-    ),
+    Outcome {
+        command: "sched p -2 6 100000",
+        program: MESSAGE_FENCE_LOAD,
+        machine: "",
+        want: "core 0 halt\nout 1 1\ncore 1 halt\nstatus 0\n",
+        status: 0,
+    },
     // an increment by load and store is lost, and none by a PEI
-    (
-        "sched p -2 0 100000",
-        INCREMENTS,
-        "",
-        "core 0 halt\ncore 1 halt\nmem 4096 2\nmem 4160 1\nstatus 0\n",
-        0,
-    ),
+    Outcome {
+        command: "sched p -2 0 100000",
+        program: INCREMENTS,
+        machine: "",
+        want: "core 0 halt\ncore 1 halt\nmem 4096 2\nmem 4160 1\nstatus 0\n",
+        status: 0,
+    },
     // both read 0
-    (
-        "sched p -2 45 100000",
-        STORE_BUFFERING,
-        "",
-        "out 0 0\ncore 0 halt\nout 1 0\ncore 1 halt\nstatus 0\n",
-        0,
-    ),
+    Outcome {
+        command: "sched p -2 45 100000",
+        program: STORE_BUFFERING,
+        machine: "",
+        want: "out 0 0\ncore 0 halt\nout 1 0\ncore 1 halt\nstatus 0\n",
+        status: 0,
+    },
     // the fence waits for the other core's writer
-    (
-        "sched p -2 6 100000",
-        FENCE_WAITS,
-        "",
-        "core 0 halt\nout 1 1\ncore 1 halt\nstatus 0\n",
-        0,
-    ),
+    Outcome {
+        command: "sched p -2 6 100000",
+        program: FENCE_WAITS,
+        machine: "",
+        want: "core 0 halt\nout 1 1\ncore 1 halt\nstatus 0\n",
+        status: 0,
+    },
     // a fence does not help a core that knows nothing of the PEI
-    (
-        "sched p -2 0 100000",
-        LOAD_BEHIND_FENCE,
-        "",
-        "core 0 halt\ncore 1 race 3 64 0 0\nstatus 5\n",
-        5,
-    ),
+    Outcome {
+        command: "sched p -2 0 100000",
+        program: LOAD_BEHIND_FENCE,
+        machine: "",
+        want: "core 0 halt\ncore 1 race 3 64 0 0\nstatus 5\n",
+        status: 5,
+    },
     // the second increment is there, and the first is on its way
-    (
-        "sched p m 16 100000",
-        TWO_BLOCKS,
-        MEMORY,
-        "core 0 halt\nout 1 1\ncore 1 race 10 64 0 0\nstatus 5\n",
-        5,
-    ),
+    Outcome {
+        command: "sched p m 16 100000",
+        program: TWO_BLOCKS,
+        machine: MEMORY,
+        want: "core 0 halt\nout 1 1\ncore 1 race 10 64 0 0\nstatus 5\n",
+        status: 5,
+    },
     // core 0 keeps the turn until its fuel is spent
-    (
-        "sched p -2 serial 100000",
-        BARRIER,
-        "",
-        "core 0 fuel\nout 1 10\ncore 1 halt\nstatus 5\n",
-        5,
-    ),
+    Outcome {
+        command: "sched p -2 serial 100000",
+        program: BARRIER,
+        machine: "",
+        want: "core 0 fuel\nout 1 10\ncore 1 halt\nstatus 5\n",
+        status: 5,
+    },
 ];
 
 #[test]
 fn litmus_outcomes_are_as_told(rt: HostRuntime) -> Result<(), Fail> {
-    for (command, program, machine, want, want_status) in OUTCOMES {
+    for row in &OUTCOMES {
+        let (command, program) = (row.command, row.program);
         let served = serve(
             rt.alloc(),
             command,
             program.as_bytes(),
-            machine.as_bytes(),
-            5000,
-            0,
-            0,
+            row.machine.as_bytes(),
+            b"",
         )?;
-        assert_eq!(rt; served.sink.bytes(), want.as_bytes(), "{command} {program}");
-        assert_eq!(rt; status(&served), want_status, "{command} {program}");
+        assert_eq!(rt;
+            served.sink.bytes(),
+            row.want.as_bytes(),
+            "{command} {program}"
+        );
+        assert_eq!(rt; status(&served), row.status, "{command} {program}");
     }
     Ok(())
 }

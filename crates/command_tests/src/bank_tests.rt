@@ -1,7 +1,8 @@
 //! Scheduled runs on machines of several banks are those on one bank.
 
-use crate::PlainEnd;
-use crate::tests::{RAISE_APART, RAISED_APART, Served, serve, status};
+use crate::commands::{Served, serve, status};
+use crate::programs::{RAISE_APART, RAISED_APART};
+use pei_cli::PlainEnd;
 use std::test::Fail;
 
 /// Two cores whose PEIs, on two blocks, share an entry of the directory.
@@ -38,15 +39,15 @@ fn two_banks_run_as_one(rt: HostRuntime) -> Result<(), Fail> {
         "sched p m serial 1000",
         "sched p m 7 1000",
     ] {
-        let one = serve(rt.alloc(), command, RAISE_APART, ALIASES, 5000, 0, 0)?;
-        let two = serve(rt.alloc(), command, RAISE_APART, ALIASES_APART, 5000, 0, 0)?;
+        let one = serve(rt.alloc(), command, RAISE_APART, ALIASES, b"")?;
+        let two = serve(rt.alloc(), command, RAISE_APART, ALIASES_APART, b"")?;
         assert_eq!(rt; two.sink.bytes(), RAISED_APART, "{command}");
         assert_eq!(rt; status(&two), 0, "{command}");
         assert!(rt; are_alike(&one, &two), "{command}");
     }
     let command = "sched p m rr 1000 trace";
-    let one = serve(rt.alloc(), command, RAISE_APART, ALIASES, 5000, 0, 0)?;
-    let two = serve(rt.alloc(), command, RAISE_APART, ALIASES_APART, 5000, 0, 0)?;
+    let one = serve(rt.alloc(), command, RAISE_APART, ALIASES, b"")?;
+    let two = serve(rt.alloc(), command, RAISE_APART, ALIASES_APART, b"")?;
     assert!(rt; are_alike(&one, &two));
     Ok(())
 }
@@ -63,11 +64,11 @@ const INCREMENTED: &[u8] =
 
 #[test]
 fn four_banks_run_as_one(rt: HostRuntime) -> Result<(), Fail> {
-    let made = serve(rt.alloc(), "gen 7", b"", b"", 5000, 0, 0)?;
+    let made = serve(rt.alloc(), "gen 7", b"", b"", b"")?;
     let program = made.sink.bytes();
     let command = "sched p m rr 100000000";
-    let one = serve(rt.alloc(), command, program, FOUR_CORES, 5000, 0, 0)?;
-    let four = serve(rt.alloc(), command, program, FOUR_BANKS, 5000, 0, 0)?;
+    let one = serve(rt.alloc(), command, program, FOUR_CORES, b"")?;
+    let four = serve(rt.alloc(), command, program, FOUR_BANKS, b"")?;
     assert_eq!(rt; four.sink.bytes(), INCREMENTED);
     assert_eq!(rt; status(&four), 0);
     assert!(rt; are_alike(&one, &four));
