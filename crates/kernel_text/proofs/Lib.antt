@@ -9,3 +9,9 @@ pub mod Phrases
 pub mod Stacked
 pub mod Bodies
 pub mod Whole
+pub mod Chains
+pub mod Flat
+pub mod Once
+pub mod OnceWhole
+pub mod Given
+pub mod GivenWhole

@@ -12,3 +12,4 @@ pub mod Room
 pub mod Built
 pub mod Beginnings
 pub mod Examples
+pub mod Laws
