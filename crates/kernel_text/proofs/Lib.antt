@@ -15,3 +15,8 @@ pub mod Once
 pub mod OnceWhole
 pub mod Given
 pub mod GivenWhole
+pub mod Clean
+pub mod Walking
+pub mod WalkingTerms
+pub mod WalkingActions
+pub mod WalkingWhole

@@ -72,10 +72,10 @@ by_name name ts free =
     in let d = free_is_no_word (codes "for") name refl free
     in rw (a, b, c, d) refl
 
-free_first : (one : List ℕ) (b : Bool) (rest : List (List ℕ)) → (list_all is_free (one ∷ rest) && b) ≡ true → is_free one ≡ true
+pub free_first : (one : List ℕ) (b : Bool) (rest : List (List ℕ)) → (list_all is_free (one ∷ rest) && b) ≡ true → is_free one ≡ true
 free_first one b rest g = (and_parts (is_free one) (list_all is_free rest) (and_parts (list_all is_free (one ∷ rest)) b g).0).0
 
-free_first_of_three : (one : List ℕ) (b c : Bool) (rest : List (List ℕ)) → (list_all is_free (one ∷ rest) && b && c) ≡ true → is_free one ≡ true
+pub free_first_of_three : (one : List ℕ) (b c : Bool) (rest : List (List ℕ)) → (list_all is_free (one ∷ rest) && b && c) ≡ true → is_free one ≡ true
 free_first_of_three one b c rest g = (and_parts (is_free one) (list_all is_free rest) (three_parts (list_all is_free (one ∷ rest)) b c g).0).0
 
 has_shape : (a : Action) (x : List Token) → is_action a ≡ true → shape (action a ++ x) ≡ shape_of a
@@ -303,7 +303,7 @@ numbers_once (n ∷ j ∷ ns) (m ∷ k ∷ ms) x y g h e =
 abbrev is_table : List Token → Bool
 is_table ts = begins_with_word (codes "table") ts
 
-table_is : (n : List ℕ) (s : ℕ) (ns : List ℕ) (x : List Token)
+pub table_is : (n : List ℕ) (s : ℕ) (ns : List ℕ) (x : List Token)
     → declaration (table n s ns) ++ x ≡ word (codes "table") ∷ word n ∷ mark (byte "[") ∷ number s ∷ mark (byte "]") ∷ mark (byte "=") ∷ (numbers ns ++ mark (byte ";") ∷ x)
 table_is n s ns x = simp append_assoc
 
