@@ -9,3 +9,14 @@ pub mod Phrases
 pub mod Stacked
 pub mod Bodies
 pub mod Whole
+pub mod Chains
+pub mod Flat
+pub mod Once
+pub mod OnceWhole
+pub mod Given
+pub mod GivenWhole
+pub mod Clean
+pub mod Walking
+pub mod WalkingTerms
+pub mod WalkingActions
+pub mod WalkingWhole

@@ -15,10 +15,10 @@ use Rattle.kernel_text.specs.Trees.{Kernel}
 use Rattle.kernel_text.specs.Grammar.{Spells, kernel, is_kernel}
 use Rattle.kernel_text.specs.Built.{tokens_in, continues, goes_on, first}
 
-abbrev tokens_at : List Placed → List Token
+abbrev pub tokens_at : List Placed → List Token
 tokens_at ts = map (λ t. t.token) ts
 
-next_is_first : (ts : List Placed) → next_of ts ≡ first (tokens_at ts)
+pub next_is_first : (ts : List Placed) → next_of ts ≡ first (tokens_at ts)
 next_is_first [] = refl
 next_is_first (t ∷ ts) = refl
 

@@ -12,3 +12,6 @@ pub mod Room
 pub mod Built
 pub mod Beginnings
 pub mod Examples
+pub mod Depth
+pub mod Sound
+pub mod Laws

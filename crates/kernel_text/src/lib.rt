@@ -10,6 +10,7 @@ pub mod evidence;
 mod expressions;
 mod faults;
 mod kinds;
+pub mod laws;
 mod names;
 mod numbers;
 mod parsing;

@@ -6,6 +6,7 @@ ghost use Rattle.kernel_text.specs.declared.stop.Stop.TheVariants as stop;
 ghost use Rattle.kernel_text.specs.Faults.{first_fault};
 ghost use Rattle.kernel_text.specs.Grammar.{kernel, is_kernel, Spells};
 ghost use Rattle.kernel_text.specs.Readings.{a_kernel};
+ghost use Rattle.kernel_text.specs.Sound.{IsSound};
 ghost use Rattle.kernel_text.specs.Views.{kernel_of};
 ghost use Rattle.kernel_text.specs.Built.{tokens_in, continues};
 
@@ -39,8 +40,9 @@ fn build(alloc: Global, tokens: &[Lexeme<'_>]) -> Result<KernelTree, Stop>
 /// column are counted from 1, the column in bytes. `OutOfMemory` is told where memory ran out, with line and column 0.
 pub fn parse(alloc: Global, text: &[u8]) -> Result<KernelTree, KernelFault>
     requires { length text.now < 4294967295 }
-    ensures sound { IfOk result (λ _. first_fault text.now ≡ None) }
     ensures ok { IfOk result (λ k. Spells text.now (kernel_of k)) }
+    ensures faultless { IfOk result (λ _. first_fault text.now ≡ None) }
+    ensures sound { IfOk result (λ k. IsSound (kernel_of k)) }
     ensures fault { IfErr result (λ f. f.kind ≢ kind.OutOfMemory → first_fault text.now ≡ Some f) }
     ensures memory { IfErr result (λ f. f.kind ≡ kind.OutOfMemory → (f.line ≡ 0) × (f.column ≡ 0)) }
 {
