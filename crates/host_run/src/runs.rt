@@ -13,6 +13,7 @@ ghost use Rattle.host_run.specs.NewSeat.{IsNewSeat};
 use crate::cores::CoreRun;
 use crate::slots::{Run, RunBank};
 use crate::visits::Place;
+use crossbeam_utils::Backoff;
 use fabric::{Bank, Fabric};
 use pei_io::Gate;
 use pei_types::{Banks, CoreId, EndKind, Image, MachineSpec, OutOfMemory, Program};
@@ -175,6 +176,7 @@ fn run_core<L: Run + Send + Sync, R: Wait, G: Gate>(
         spec,
         gate,
         core,
+        pause: Backoff::new(),
     };
     let mut run = CoreRun::make(image, core);
     place.run(&mut seat, &mut run);

@@ -232,7 +232,8 @@ impl<'a, L: Run + Send + Sync, R: Wait, G: Gate> Place<'a, L, R, G> {
         }
     }
 
-    /// One try for the claim of a PEI that is to enter next.
+    /// One try for the claim of a PEI that is to enter next. Where its entry is busy, the thread pauses before it goes on, longer
+    /// from try to try until a claim is granted.
     fn try_claim(
         &self,
         seat: &mut CoreSeat<RunBank<L>>,
@@ -252,8 +253,8 @@ impl<'a, L: Run + Send + Sync, R: Wait, G: Gate> Place<'a, L, R, G> {
         let _ = run;
         laws();
         match self.table.try_grant(seat, lane, entry, pei.mode) {
-            Grant::Held => {}
-            Grant::Busy { .. } => {}
+            Grant::Held => self.pause.reset(),
+            Grant::Busy { .. } => self.pause.snooze(),
         }
     }
 

@@ -15,6 +15,7 @@ ghost use Rattle.host_run.specs.Grant.{IsGranted};
 use crate::cores::CoreRun;
 use crate::slots::{Run, RunBank};
 use bank_laws::laws::{banks_keep_apart, banks_merge, cores_go_on, logs_make_legal};
+use crossbeam_utils::Backoff;
 use pei_io::Gate;
 use pei_types::evidence::{calls_fit, core_stops_once, folds_grow};
 use pei_types::{CoreId, Event, MachineSpec, Program};
@@ -34,6 +35,8 @@ pub(crate) struct Place<'a, L: Run + Send + Sync, R: Wait, G: Gate> {
     pub spec: &'a MachineSpec,
     pub gate: &'a G,
     pub core: CoreId,
+    /// The pauses between two tries for a directory entry.
+    pub pause: Backoff,
     ghost program_is: { program.now ≡ L.program },
     ghost machine_is: { spec.now ≡ L.machine },
     ghost entries_are: { table.now.entries ≡ L.machine.directory },
