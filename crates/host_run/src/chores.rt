@@ -29,7 +29,7 @@ fn is_released<L: Run + Send + Sync>(seat: &CoreSeat<RunBank<L>>) -> bool
 
 impl<'a, L: Run + Send + Sync, R: Wait, G: Gate> Place<'a, L, R, G> {
     /// Takes turns, lane by lane, until the core has ended and its claims are released, or no stamp is left. Before each
-    /// turn it asks whether one is left.
+    /// turn that has something to do it asks whether one is left.
     pub fn run(&self, seat: &mut CoreSeat<RunBank<L>>, run: &mut CoreRun)
         requires turn { IsInTurn L.program L.machine L.image self.now.table.now.table seat.old run.old }
         requires core { self.now.core ≡ core_of seat.old }
@@ -63,7 +63,8 @@ impl<'a, L: Run + Send + Sync, R: Wait, G: Gate> Place<'a, L, R, G> {
         true
     }
 
-    /// A turn of the core's program, which is lane 0, or of a lane with its PEI. False where no stamp was left.
+    /// A turn of the core's program, which is lane 0, or of a lane with its PEI. False where no stamp was left. A lane that has
+    /// neither a PEI nor a claim to release has nothing to do, and asks for nothing.
     fn turn(&self, seat: &mut CoreSeat<RunBank<L>>, run: &mut CoreRun, lane: u8) -> bool
         requires turn { IsInTurn L.program L.machine L.image self.now.table.now.table seat.old run.old }
         requires core { self.now.core ≡ core_of seat.old }
@@ -72,7 +73,9 @@ impl<'a, L: Run + Send + Sync, R: Wait, G: Gate> Place<'a, L, R, G> {
         ensures full { IsFalse result → IsFull L.program L.machine L.image self.now.table.now.table seat.new run.new }
         ensures core { core_of seat.new ≡ core_of seat.old }
     {
-        if self.is_full(seat, run) {
+        if lane > 0 && run.own.is_idle(Lane(lane)) {
+            true
+        } else if self.is_full(seat, run) {
             false
         } else if lane == 0 {
             self.program_turn(seat, run)

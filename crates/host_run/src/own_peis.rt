@@ -1,6 +1,6 @@
 //! A core's PEIs on their way, as its thread keeps them from the core's own events.
 
-ghost use Rattle.std.specs.Prelude.{◌≡◌, ◌-◌, ◌^◌, ◌<◌, ◌≤◌, ◌↔◌, List, [], ◌∷◌, ◌++◌, true, IfSome, IfNone, IsTrue, option_map};
+ghost use Rattle.std.specs.Prelude.{◌≡◌, ◌-◌, ◌^◌, ◌<◌, ◌≤◌, ◌↔◌, List, [], ◌∷◌, ◌++◌, true, IfSome, IfNone, IsTrue, option_map, None, false};
 ghost use Rattle.pei_types.specs.declared.events.Event.{Event};
 ghost use Rattle.pei_types.specs.declared.identifiers.CoreId.{CoreId};
 ghost use Rattle.pei_types.specs.declared.machines.MachineSpec.{MachineSpec};
@@ -12,7 +12,7 @@ ghost use Rattle.fabric.specs.Looks.{is_clear, seen};
 ghost use Rattle.shared_table.specs.Claims.{fence_at};
 ghost use Rattle.thread_laws.specs.Laws.{OwnIssuesAreNew};
 ghost use Rattle.thread_laws.specs.OwnEvents.{IssuesNext};
-ghost use Rattle.host_run.specs.Own.{IsFirst, IsOfItsLane, IsOnLane, KeepsEvents, NoneCounts, cleared_after, counts, free_in, lanes_after, lower_of, no_peis, pei_in, spent_after};
+ghost use Rattle.host_run.specs.Own.{IsFirst, IsOfItsLane, IsOnLane, KeepsEvents, NoneCounts, cleared_after, counts, free_in, is_spent, lanes_after, lower_of, no_peis, pei_in, spent_after};
 
 use fabric::CoreLook;
 use pei_ops::mode;
@@ -116,6 +116,14 @@ impl OwnPeis {
         ensures { result ≡ pei_in self.now lane.0 }
     {
         self.lanes[lane.0 as usize - 1]
+    }
+
+    /// Whether a lane from 1 to 4 holds no PEI, and its claim is not spent.
+    pub fn is_idle(&self, lane: Lane) -> bool
+        requires { (1 ≤ lane.0) × (lane.0 ≤ 4) }
+        ensures { result ≡ true → (pei_in self.now lane.0 ≡ None) × (is_spent self.now lane.0 ≡ false) }
+    {
+        self.pei(lane).is_none() && !self.spent[lane.0 as usize - 1]
     }
 
     /// The lowest lane that holds no PEI, of so many.
