@@ -1,5 +1,5 @@
-//! Tests of the top call: whole programs, machines and traces in memory, by the public calls of `pei_cli` alone; and one of a
-//! run by threads, for what no command tells.
+//! Tests of `plain`, the top call without threads: whole programs, machines and traces in memory, by the public calls of
+//! `pei_cli` alone.
 //!
 //! Expected reports, traces and verdicts are worked out by hand from the definitions of the machine.
 #![tactic(auto)]
@@ -28,5 +28,3 @@ mod refusal_tests;
 mod run_tests;
 #[cfg(test)]
 mod text_tests;
-#[cfg(test)]
-mod thread_tests;

@@ -10,5 +10,4 @@ ghost use Rattle.sched_run.specs.ElevenClauses.{ElevenClauses};
 /// A legal journal meets each of the eleven clauses by itself.
 pub fn legal_journals_meet_clauses()
     ensures { (p : Listing) (m : MachineSpec) (image : Contents) (journal : List Event) → Legal p m image journal → ElevenClauses p m image journal }
-{
-}
+{}

@@ -6,8 +6,8 @@ ghost use Rattle.std.specs.List.{list_all};
 ghost use Rattle.pei_types.specs.Calls.{is_actor_of};
 ghost use Rattle.sched_run.specs.EndsAfter.{ends_after};
 
-use crate::turns::{Step, lane_turn, program_turn, take_in};
 use crate::claims::Desk;
+use crate::turns::{Step, lane_turn, program_turn, take_in};
 use core_exec::Core;
 use fabric::Fabric;
 use history_laws::laws::{holding_tells, whole_runs_are_legal as runs_hold};

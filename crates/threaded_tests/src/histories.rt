@@ -121,3 +121,30 @@ fn a_full_journal_ends_the_run(rt: HostRuntime) -> Result<(), Fail> {
     }
     Ok(())
 }
+
+/// One core stores in block 64, which lies in bank 0, in block 65 of bank 1, and again in block 64.
+const THREE_STORES: &[u8] =
+    b".entry 0, s\ns: li r1, 7\nst r1, r0, 4096\nst r1, r0, 4160\nst r1, r0, 4104\nhalt\n";
+
+/// Two banks below one core.
+const TWO_BANKS: &[u8] = b"cores = 1\nblocks = 128\nbanks = 2\nevents = 64\n";
+
+/// Its trace: one core's thread makes the events of its program in order.
+const STORED: &[u8] =
+    b"peisim-trace 1 mesi\n0.0 fill 64\n0.0 grantm 64\n0.0 store 4096 7\n0.0 fill 65\n0.0 grantm 65\n\
+0.0 store 4160 7\n0.0 store 4104 7\n0.0 end halt\n";
+
+/// Joined end to end, the store in bank 1 would come behind those of bank 0.
+#[test]
+fn banks_are_joined_by_stamps(rt: HostRuntime) -> Result<(), Fail> {
+    let trace = run(
+        &rt,
+        rt.alloc(),
+        "run p m trace",
+        THREE_STORES,
+        TWO_BANKS,
+        &FreeGate,
+    )?;
+    assert_eq!(rt; trace.sink.bytes(), STORED);
+    Ok(())
+}
