@@ -48,23 +48,23 @@ fn served<R: Threads + Wait + Sync>(
 }
 
 /// One core puts 7 out and halts.
-const SEVEN: &str = ".entry 0, s\ns: li r1, 7\nout r1\nhalt\n";
+const SEVEN: &[u8] = b".entry 0, s\ns: li r1, 7\nout r1\nhalt\n";
 
 /// One core loads from an address that is no multiple of 8.
-const TRAPPED: &str = ".entry 0, s\ns: ld r1, r0, 4\n";
+const TRAPPED: &[u8] = b".entry 0, s\ns: ld r1, r0, 4\n";
 
 /// The line of a fault of words.
-const USAGE: &str = "usage: peisim asm or sched or run or check or gen\n";
+const USAGE: &[u8] = b"usage: peisim asm or sched or run or check or gen\n";
 
 /// A command over a program, with the room of its output in bytes, and what it ends with.
 #[derive(Clone, Copy)]
 struct Row {
     command: &'static str,
-    program: &'static str,
+    program: &'static [u8],
     room: u32,
     status: u8,
-    output: &'static str,
-    line: &'static str,
+    output: &'static [u8],
+    line: &'static [u8],
 }
 
 const ROW: Row = Row {
@@ -72,8 +72,8 @@ const ROW: Row = Row {
     program: SEVEN,
     room: 100,
     status: 0,
-    output: "out 0 7\ncore 0 halt\nstatus 0\n",
-    line: "",
+    output: b"out 0 7\ncore 0 halt\nstatus 0\n",
+    line: b"",
 };
 
 const ENDS: [Row; 9] = [
@@ -81,33 +81,33 @@ const ENDS: [Row; 9] = [
     Row {
         program: TRAPPED,
         status: 5,
-        output: "core 0 trap 0 align\nstatus 5\n",
+        output: b"core 0 trap 0 align\nstatus 5\n",
         ..ROW
     },
     Row {
         command: "sched p -1 rr 1",
         status: 7,
-        output: "out 0 7\ncore 0 unfinished\nstatus 7\n",
+        output: b"out 0 7\ncore 0 unfinished\nstatus 7\n",
         ..ROW
     },
     Row {
-        program: "halt\nx",
+        program: b"halt\nx",
         status: 3,
-        output: "",
-        line: "program bad 2:1 UnknownName\n",
+        output: b"",
+        line: b"program bad 2:1 UnknownName\n",
         ..ROW
     },
     Row {
         room: 3,
         status: 9,
-        output: "out",
-        line: "write fault\n",
+        output: b"out",
+        line: b"write fault\n",
         ..ROW
     },
     Row {
         command: "sched p -1 rr",
         status: 2,
-        output: "",
+        output: b"",
         line: USAGE,
         ..ROW
     },
@@ -119,14 +119,14 @@ const ENDS: [Row; 9] = [
         command: "run p -1",
         room: 3,
         status: 9,
-        output: "out",
-        line: "write fault\n",
+        output: b"out",
+        line: b"write fault\n",
         ..ROW
     },
     Row {
         command: "run p",
         status: 2,
-        output: "",
+        output: b"",
         line: USAGE,
         ..ROW
     },
@@ -134,22 +134,13 @@ const ENDS: [Row; 9] = [
 
 #[test]
 fn commands_end_with_status_and_line(rt: HostRuntime) -> Result<(), Fail> {
-    for row in ENDS {
-        let args = Ok(words(rt.alloc(), row.command)?);
-        let ended = served(&rt, rt.alloc(), args, row.program.as_bytes(), row.room)?;
-        assert_eq!(rt; ended.status, row.status, "{}", row.command);
-        assert_eq!(rt;
-            ended.output.bytes(),
-            row.output.as_bytes(),
-            "{}",
-            row.command
-        );
-        assert_eq!(rt;
-            ended.faults.bytes(),
-            row.line.as_bytes(),
-            "{}",
-            row.command
-        );
+    for row in &ENDS {
+        let command = row.command;
+        let args = Ok(words(rt.alloc(), command)?);
+        let ended = served(&rt, rt.alloc(), args, row.program, row.room)?;
+        assert_eq!(rt; ended.status, row.status, "{command}");
+        assert_eq!(rt; ended.output.bytes(), row.output, "{command}");
+        assert_eq!(rt; ended.faults.bytes(), row.line, "{command}");
     }
     Ok(())
 }
@@ -158,12 +149,12 @@ fn commands_end_with_status_and_line(rt: HostRuntime) -> Result<(), Fail> {
 fn words_that_cannot_be_had_are_a_fault(rt: HostRuntime) -> Result<(), Fail> {
     for (kind, status, line) in [
         (ErrorKind::InvalidData, 2, USAGE),
-        (ErrorKind::OutOfMemory, 10, "out of memory\n"),
+        (ErrorKind::OutOfMemory, 10, b"out of memory\n"),
     ] {
         let ended = served(&rt, rt.alloc(), Err(Error::from(kind)), b"", 100)?;
         assert_eq!(rt; ended.status, status, "{kind:?}");
         assert_eq!(rt; ended.output.bytes(), b"".as_slice(), "{kind:?}");
-        assert_eq!(rt; ended.faults.bytes(), line.as_bytes(), "{kind:?}");
+        assert_eq!(rt; ended.faults.bytes(), line, "{kind:?}");
     }
     Ok(())
 }
