@@ -1,4 +1,4 @@
--- A bank behind a slot may go to another thread.
+-- A bank behind a slot may go to another thread, in its box.
 use denote.Exit.{yes}
 use denote.Param.{arg, param}
 use denote.Param.Send.{IsSend, IsSync, arg_send, param_send, sendable}
@@ -8,7 +8,11 @@ use denote.Struct.Tuple.{Tuple, TupleAt, tuple_type, type_at}
 use mathlib.Core.List.{List, [], ◌∷◌}
 use denote.RattleType.{RattleType}
 use mir.Syntax.{Sym, Ty}
+use Rattle.std.below.std_heap.proofs.GlobalAllocator.TheSendSync.{the_frees}
+use Rattle.std.proofs.boxed.Box.TheSendSync.{the_send as box_send}
 use Rattle.std.proofs.option.Option.TheSendSync.{the_send as option_send}
+use Rattle.std.specs.contracts.alloc.Global as allocator
+use Rattle.std.specs.contracts.impls.GlobalAllocator.TheImpl.{ghosts}
 use Rattle.std.specs.contracts.option.Option as option
 use Rattle.pei_types.proofs.calls.EndKind.TheSendSync.{the_send as end_send}
 use Rattle.pei_types.specs.contracts.calls.EndKind as end_kind
@@ -16,11 +20,12 @@ use Rattle.shared_table.proofs.table.CoreSeat.TheSendSync.{the_send as seat_send
 use Rattle.shared_table.specs.contracts.table.CoreSeat as seat
 use Rattle.shared_table.specs.declared.rule.Shared.{Ghosts as Shown}
 use Rattle.fabric.proofs.Sent.{bank_send}
+use Rattle.fabric.specs.contracts.bank.Bank as bank
 use Rattle.host_run.specs.contracts.slots.RunBank as run_bank
 use Rattle.host_run.specs.declared.slots.Run.{Ghosts}
 
 pub run_bank_send : (T : RattleType) (g : Ghosts T.Denot) → IsSend T → IsSend (run_bank.the_row T g)
-run_bank_send T g s = declared_send (run_bank.the_type T g) (bank_send, (search sendable, tt))
+run_bank_send T g s = declared_send (run_bank.the_type T g) (box_send bank.the_row allocator.the_row ghosts bank_send (search sendable) the_frees, (search sendable, tt))
 
 -- as a table's type argument
 pub slot_crosses : (t : Ty) (T : RattleType) (g : Ghosts T.Denot) → IsSend T → IsSend (param 0 (arg t yes (run_bank.the_row T g)))

@@ -65,43 +65,49 @@ fn laws()
 }
 
 /// A bank as the value behind a slot.
-fn slot_of<L: Run + Send + Sync>(bank: Bank) -> RunBank<L>
+fn slot_of<L: Run + Send + Sync>(alloc: Global, bank: Bank) -> Result<RunBank<L>, OutOfMemory>
     requires { (bank.machine ≡ L.machine) × (bank.image ≡ L.image) }
-    ensures { result.bank ≡ bank }
+    ensures { IfOk result (λ s. s.bank.value ≡ bank) }
 {
-    RunBank {
+    let Ok(bank) = Box::new(alloc, bank) else {
+        return Err(OutOfMemory);
+    };
+    Ok(RunBank {
         bank,
         of: PhantomData,
-    }
+    })
 }
 
 /// The bank behind a slot.
 fn bank_in<L: Run + Send + Sync>(slot: RunBank<L>) -> Bank
-    ensures { result ≡ slot.bank }
+    ensures { result ≡ slot.bank.value }
 {
     let RunBank { bank, of: _ } = slot;
-    bank
+    Box::into_inner(bank)
 }
 
 /// The banks of a machine that has made no event, as values behind slots.
-fn with_run<L: Run + Send + Sync>(mut banks: Banks<Bank>) -> Banks<RunBank<L>>
+fn with_run<L: Run + Send + Sync>(
+    alloc: Global,
+    mut banks: Banks<Bank>,
+) -> Result<Banks<RunBank<L>>, OutOfMemory>
     requires { banks ≡ banks_at_start L.machine L.image }
-    ensures { map (λ s. s.bank) result ≡ banks }
+    ensures { IfOk result (λ slots. map (λ s. s.bank.value) slots ≡ banks) }
 {
     let Some(first) = banks.take_first() else {
         unreachable!()
     };
-    let mut slots = Banks::make(slot_of(first));
+    let mut slots = Banks::make(slot_of(alloc, first)?);
     while let Some(bank) = banks.take_first() {
-        slots.push(slot_of(bank));
+        slots.push(slot_of(alloc, bank)?);
     }
-    slots
+    Ok(slots)
 }
 
 /// The banks behind the slots.
 fn without_run<L: Run + Send + Sync>(mut slots: Banks<RunBank<L>>) -> Banks<Bank>
     requires { (0 < length slots) × (length slots ≤ 8) }
-    ensures { result ≡ map (λ s. s.bank) slots }
+    ensures { result ≡ map (λ s. s.bank.value) slots }
 {
     let Some(first) = slots.take_first() else {
         unreachable!()
@@ -199,7 +205,7 @@ fn run_as<L: Run + Send + Sync, R: Threads + Wait + Sync, G: Gate>(
 {
     laws();
     let fabric = Fabric::make(alloc, spec, image)?;
-    let slots = with_run::<L>(fabric.split());
+    let slots = with_run::<L>(alloc, fabric.split())?;
     let (table, seats) = SharedTable::make(alloc, spec.directory, spec.cores, spec.events, slots)?;
     let (jobs, mut seats) = take_all(alloc, seats)?;
     let shared = &table;

@@ -22,7 +22,7 @@ use crate::own_peis::OwnPei;
 use crate::slots::{Run, RunBank};
 use crate::visits::{Place, laws};
 use core_exec::CoreNext;
-use fabric::{Bank, CoreLook};
+use fabric::CoreLook;
 use pei_io::Gate;
 use pei_types::{BlockNo, Call, Lane, MachineSpec, Mode, PeiId, StallCause, block_of, fold};
 use shared_table::{Claim, CoreSeat, Grant};
@@ -102,7 +102,7 @@ impl<'a, L: Run + Send + Sync, R: Wait, G: Gate> Place<'a, L, R, G> {
     {
         laws();
         let held = self.hold(seat, run, u32::from(run.own.cleared));
-        let clear = self.is_cleared(&held.value.bank, begin);
+        let clear = self.is_cleared(&held.value, begin);
         self.give_back(seat, held, run);
         if clear {
             run.own.cleared += 1;
@@ -110,13 +110,13 @@ impl<'a, L: Run + Send + Sync, R: Wait, G: Gate> Place<'a, L, R, G> {
     }
 
     /// Whether no writer is left in a bank whose issue has a smaller stamp.
-    fn is_cleared(&self, bank: &Bank, begin: u32) -> bool
-        ensures { IsTrue result → earlier_left begin bank.now.log ≡ true }
+    fn is_cleared(&self, slot: &RunBank<L>, begin: u32) -> bool
+        ensures { IsTrue result → earlier_left begin slot.now.bank.value.log ≡ true }
     {
         let _ = self.core;
         laws();
-        bank.is_in_order();
-        match bank.fence_waits(begin) {
+        slot.is_in_order();
+        match slot.fence_waits(begin) {
             Some(_) => false,
             None => true,
         }
@@ -136,7 +136,7 @@ impl<'a, L: Run + Send + Sync, R: Wait, G: Gate> Place<'a, L, R, G> {
         let look = run.own.look(self.core, self.spec.buffer);
         let bank = bank_of_call(call, self.spec);
         let mut held = self.hold(seat, run, bank);
-        if self.waits(&held.value.bank, call, &look) {
+        if self.waits(&held.value, call, &look) {
             self.give_back(seat, held, run);
             return true;
         }
@@ -144,24 +144,24 @@ impl<'a, L: Run + Send + Sync, R: Wait, G: Gate> Place<'a, L, R, G> {
             self.give_back(seat, held, run);
             return false;
         };
-        let event = held.value.bank.call(self.core, call, &look, stamp);
+        let event = held.value.call(self.core, call, &look, stamp);
         self.give_event(seat, run, held, stamp, &event);
         true
     }
 
     /// Whether a call waits in its bank. A fence that is about to end asks its bank once more for earlier writers.
-    fn waits(&self, bank: &Bank, call: &Call, look: &CoreLook) -> bool
-        requires clear { IfSome look.now.fence (λ _. is_clear bank.now.machine look.now ≡ true) }
-        requires core { self.now.core.0 < bank.now.machine.cores }
-        ensures goes { IsFalse result → call_stall_of bank.now self.now.core look.now call.now ≡ None }
-        ensures fence { IsFalse result → IfSome (open_fence look.now call.now) (λ begin. waits_of bank.now begin ≡ None) }
+    fn waits(&self, slot: &RunBank<L>, call: &Call, look: &CoreLook) -> bool
+        requires clear { IfSome look.now.fence (λ _. is_clear slot.now.bank.value.machine look.now ≡ true) }
+        requires core { self.now.core.0 < slot.now.bank.value.machine.cores }
+        ensures goes { IsFalse result → call_stall_of slot.now.bank.value self.now.core look.now call.now ≡ None }
+        ensures fence { IsFalse result → IfSome (open_fence look.now call.now) (λ begin. waits_of slot.now.bank.value begin ≡ None) }
     {
         if let (Call::Fence, Some(begin)) = (call, look.fence) {
-            if bank.fence_waits(begin).is_some() {
+            if slot.fence_waits(begin).is_some() {
                 return true;
             }
         }
-        bank.call_stall(self.core, call, look).is_some()
+        slot.call_stall(self.core, call, look).is_some()
     }
 
     /// A turn of a lane from 1 on. A claim whose PEI has left goes first.
@@ -283,7 +283,7 @@ impl<'a, L: Run + Send + Sync, R: Wait, G: Gate> Place<'a, L, R, G> {
         let mut held = self.hold(seat, run, bank);
 
         // It always waits for its entry here. The test spares the proof of that.
-        let stall = held.value.bank.lane_stall(self.core, lane, look);
+        let stall = held.value.lane_stall(self.core, lane, look);
         if stall != Some(StallCause::NeedsGrant) {
             self.give_back(seat, held, run);
             return true;
@@ -292,7 +292,7 @@ impl<'a, L: Run + Send + Sync, R: Wait, G: Gate> Place<'a, L, R, G> {
             self.give_back(seat, held, run);
             return false;
         };
-        let event = held.value.bank.enter(self.core, lane, look, stamp);
+        let event = held.value.enter(self.core, lane, look, stamp);
         self.give_event(seat, run, held, stamp, &event);
         true
     }
@@ -317,7 +317,7 @@ impl<'a, L: Run + Send + Sync, R: Wait, G: Gate> Place<'a, L, R, G> {
         let look = run.own.look(self.core, self.spec.buffer);
         let bank = bank_of(pei.block, self.spec);
         let mut held = self.hold(seat, run, bank);
-        if held.value.bank.lane_stall(self.core, lane, &look).is_some() {
+        if held.value.lane_stall(self.core, lane, &look).is_some() {
             self.give_back(seat, held, run);
             return true;
         }
@@ -325,7 +325,7 @@ impl<'a, L: Run + Send + Sync, R: Wait, G: Gate> Place<'a, L, R, G> {
             self.give_back(seat, held, run);
             return false;
         };
-        let event = held.value.bank.lane(self.core, lane, &look, stamp);
+        let event = held.value.lane(self.core, lane, &look, stamp);
         self.give_event(seat, run, held, stamp, &event);
         true
     }

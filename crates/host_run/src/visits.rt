@@ -77,8 +77,8 @@ impl<'a, L: Run + Send + Sync, R: Wait, G: Gate> Place<'a, L, R, G> {
     ) -> Held<RunBank<L>>
         requires turn { IsInTurn L.program L.machine L.image self.now.table.now.table seat.old run.old }
         requires bank { bank < L.machine.banks }
-        ensures bank { result.value.bank.bank ≡ bank }
-        ensures slot { HasSlot L.machine L.image self.now.table.now.table bank result.value.bank.log None seat.new }
+        ensures bank { result.value.bank.value.bank ≡ bank }
+        ensures slot { HasSlot L.machine L.image self.now.table.now.table bank result.value.bank.value.log None seat.new }
         ensures missed { misses seat.new ≡ 0 }
         ensures keeps { KeepsUp L.program L.machine L.image seat.new run.new.core run.new.own run.new.end }
         ensures run { (run.new.core ≡ run.old.core) × (run.new.own ≡ run.old.own) × (run.new.end ≡ run.old.end) }
@@ -88,7 +88,7 @@ impl<'a, L: Run + Send + Sync, R: Wait, G: Gate> Place<'a, L, R, G> {
         self.come(run);
         laws();
         let held = self.table.hold(self.rt, seat, bank);
-        held.value.bank.is_in_order();
+        held.value.is_in_order();
         held
     }
 
@@ -121,18 +121,18 @@ impl<'a, L: Run + Send + Sync, R: Wait, G: Gate> Place<'a, L, R, G> {
 
     /// Gives the slot back without an event.
     pub fn give_back(&self, seat: &mut CoreSeat<RunBank<L>>, held: Held<RunBank<L>>, run: &CoreRun)
-        requires slot { HasSlot L.machine L.image self.now.table.now.table held.value.bank.bank held.value.bank.log None seat.old }
+        requires slot { HasSlot L.machine L.image self.now.table.now.table held.value.bank.value.bank held.value.bank.value.log None seat.old }
         requires keeps { KeepsUp L.program L.machine L.image seat.old run.now.core run.now.own run.now.end }
         ensures rest { IsAtRest self.now.table.now.table seat.new }
         ensures counts { (misses seat.new ≡ misses seat.old) × (filled seat.new ≡ filled seat.old) }
         ensures keeps { KeepsUp L.program L.machine L.image seat.new run.now.core run.now.own run.now.end }
-        ensures cleared { run.now.own.cleared ≡ held.value.bank.bank → (begin : ℕ) → run.now.own.fence ≡ Some begin → earlier_left begin held.value.bank.log ≡ true →
-            KeepsUp L.program L.machine L.image seat.new run.now.core (record run.now.own { cleared = held.value.bank.bank + 1 }) run.now.end }
+        ensures cleared { run.now.own.cleared ≡ held.value.bank.value.bank → (begin : ℕ) → run.now.own.fence ≡ Some begin → earlier_left begin held.value.bank.value.log ≡ true →
+            KeepsUp L.program L.machine L.image seat.new run.now.core (record run.now.own { cleared = held.value.bank.value.bank + 1 }) run.now.end }
         ensures seat { core_of seat.new ≡ core_of seat.old }
     {
         let _ = run;
         laws();
-        held.value.bank.is_in_order();
+        held.value.is_in_order();
         self.table.give(seat, held);
     }
 
@@ -148,22 +148,22 @@ impl<'a, L: Run + Send + Sync, R: Wait, G: Gate> Place<'a, L, R, G> {
         stamp: u32,
         event: &Event,
     )
-        requires slot { HasSlot L.machine L.image self.now.table.now.table held.value.bank.bank (seen held.value.bank.bank seat.old) (Some stamp) seat.old }
-        requires log { held.value.bank.log ≡ seen held.value.bank.bank seat.old ++ record { stamp = stamp; event = event.now } ∷ [] }
+        requires slot { HasSlot L.machine L.image self.now.table.now.table held.value.bank.value.bank (seen held.value.bank.value.bank seat.old) (Some stamp) seat.old }
+        requires log { held.value.bank.value.log ≡ seen held.value.bank.value.bank seat.old ++ record { stamp = stamp; event = event.now } ∷ [] }
         requires missed { misses seat.old ≡ 0 }
         requires keeps { KeepsUp L.program L.machine L.image seat.old run.old.core run.old.own run.old.end }
         requires above { IsAbove stamp seat.old.knows.side }
         requires below { stamp < L.machine.events }
         requires core { event.now.actor.core ≡ core_of seat.old }
-        requires row { IsRowIn L.program L.machine L.image held.value.bank.bank (events (seen held.value.bank.bank seat.old)) (own_events seat.old) event.now }
+        requires row { IsRowIn L.program L.machine L.image held.value.bank.value.bank (events (seen held.value.bank.value.bank seat.old)) (own_events seat.old) event.now }
         requires entering { IsGranted L.machine seat.old run.old.own event.now }
-        requires home { FencesAtHome (core_of seat.old) (record { bank = held.value.bank.bank; event = event.now }) }
+        requires home { FencesAtHome (core_of seat.old) (record { bank = held.value.bank.value.bank; event = event.now }) }
         requires ending { ends_fence (core_of seat.old) event.now ≡ true → run.old.own.cleared ≡ L.machine.banks }
         ensures turn { IsInTurn L.program L.machine L.image self.now.table.now.table seat.new run.new }
         ensures seat { core_of seat.new ≡ core_of seat.old }
     {
         laws();
-        held.value.bank.is_in_order();
+        held.value.is_in_order();
         self.table.give(seat, held);
         run.take_in(self.program, self.spec, stamp, event);
         if !run.moved {

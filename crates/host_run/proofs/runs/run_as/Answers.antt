@@ -25,8 +25,8 @@ pub make-requires-2-clause-banks : goal.make-requires-2-clause-banks
 make-requires-2-clause-banks g c κs within =
     let m = g.L.Run.machine
     in let f = c.in_ok-fabric.ensures
-    in let same = c.with_run-slots.ensures ∙ c.split.ensures ∙ ap₂ banks_at_start (ap (λ (h : History). h.machine) f ∙ c.requires.marker.1) (ap (λ (h : History). h.image) f ∙ c.requires.marker.2)
-    in let count = slot_count (λ s. s.bank) m g.L.Run.image c.with_run-slots.result same
+    in let same = c.in_ok-slots.ensures ∙ c.split.ensures ∙ ap₂ banks_at_start (ap (λ (h : History). h.machine) f ∙ c.requires.marker.1) (ap (λ (h : History). h.image) f ∙ c.requires.marker.2)
+    in let count = slot_count (λ s. s.bank.value) m g.L.Run.image c.in_ok-slots.slots same
     in let some_bank = m.banks_in_limits.0.0
     in omega (arith, count, some_bank)
 
@@ -34,8 +34,8 @@ pub make-requires-2-clause-shared : goal.make-requires-2-clause-shared
 make-requires-2-clause-shared g c κs within = λ b x e.
     let m = g.L.Run.machine
     in let f = c.in_ok-fabric.ensures
-    in let same = c.with_run-slots.ensures ∙ c.split.ensures ∙ ap₂ banks_at_start (ap (λ (h : History). h.machine) f ∙ c.requires.marker.1) (ap (λ (h : History). h.image) f ∙ c.requires.marker.2)
-    in let it = slot_at (λ s. s.bank) m g.L.Run.image c.with_run-slots.result b x same e
+    in let same = c.in_ok-slots.ensures ∙ c.split.ensures ∙ ap₂ banks_at_start (ap (λ (h : History). h.machine) f ∙ c.requires.marker.1) (ap (λ (h : History). h.image) f ∙ c.requires.marker.2)
+    in let it = slot_at (λ s. s.bank.value) m g.L.Run.image c.in_ok-slots.slots b x same e
     in (ap (λ (h : BankHistory). h.log) it, ap (λ (h : BankHistory). active_in m.directory (events h.log)) it, ap (λ (h : BankHistory). h.bank) it)
 
 pub take_all-requires-after_bounds : goal.take_all-requires-after_bounds
@@ -54,8 +54,8 @@ map_vec-done-requires-after_bounds g c κs within i x l e =
     in let about = c.in_ok-table.ensures.table
     in let made = c.in_ok-jobs.ensures.taken ∙ ap (λ (s : SeatList). s.list) c.in_ok-table.ensures.seats ∙ ap (λ (n : MachineSpec). (all_seats t n.cores).list) r.1
     in let f = c.in_ok-fabric.ensures
-    in let same = c.with_run-slots.ensures ∙ c.split.ensures ∙ ap₂ banks_at_start (ap (λ (h : History). h.machine) f ∙ r.1) (ap (λ (h : History). h.image) f ∙ r.2)
-    in let count = slot_count (λ s. s.bank) m g.L.Run.image c.with_run-slots.result same
+    in let same = c.in_ok-slots.ensures ∙ c.split.ensures ∙ ap₂ banks_at_start (ap (λ (h : History). h.machine) f ∙ r.1) (ap (λ (h : History). h.image) f ∙ r.2)
+    in let count = slot_count (λ s. s.bank.value) m g.L.Run.image c.in_ok-slots.slots same
     in let here = at_index c.in_ok-jobs.jobs.items i x l e
     in ((r.0, r.1, r.2, about.0 ∙ ap (λ (n : MachineSpec). n.directory) r.1, about.2 ∙ count, about.3 ∙ ap (λ (n : MachineSpec). n.events) r.1, all_new t m.cores c.in_ok-jobs.jobs.items made i x here, in_cores t m c.in_ok-jobs.jobs.items i x made here), search rules)
 
@@ -131,13 +131,13 @@ merge-requires g c =
     in let count : length done ≡ length jobs = sym c.in-Ok.done.ok.0 ∙ c.in-Ok.ensures.len ∙ c.in_ok-jobs.jobs.ok.0
     in let told : AreDone g.L.Run.program m g.L.Run.image t jobs done = λ i d less. let k = c.in-Ok.ensures.each i d less in (k.1.call.met.0, λ s. k.1.call.met.1 ∙ ap core_number (sym (k.1.job_is s)))
     in let f = c.in_ok-fabric.ensures
-    in let same = c.with_run-slots.ensures ∙ c.split.ensures ∙ ap₂ banks_at_start (ap (λ (h : History). h.machine) f ∙ r.1) (ap (λ (h : History). h.image) f ∙ r.2)
-    in let slots = slot_count (λ s. s.bank) m g.L.Run.image c.with_run-slots.result same
+    in let same = c.in_ok-slots.ensures ∙ c.split.ensures ∙ ap₂ banks_at_start (ap (λ (h : History). h.machine) f ∙ r.1) (ap (λ (h : History). h.image) f ∙ r.2)
+    in let slots = slot_count (λ s. s.bank.value) m g.L.Run.image c.in_ok-slots.slots same
     in let about = c.in_ok-table.ensures.table
     in let closed = c.close-slots.ensures
     in let l = c.laws.ensures
     in let run : HasRun g.L.Run.program m g.L.Run.image c.without_run.result c.put_all-cores.result c.close-slots.result.1 = (
-    has_run g.L.Run.program m g.L.Run.image t jobs done made count told l.legal l.apart l.sound (λ s. s.bank) c.close-slots.result.0 c.without_run.result c.without_run.ensures (closed.banks.0 ∙ about.2 ∙ slots)
+    has_run g.L.Run.program m g.L.Run.image t jobs done made count told l.legal l.apart l.sound (λ s. s.bank.value) c.close-slots.result.0 c.without_run.result c.without_run.ensures (closed.banks.0 ∙ about.2 ∙ slots)
     (λ b x e. (x.machine, x.image, closed.banks.1 b x e))
     c.in_ok-table.table.entries c.in_ok-table.table.events c.put_all-cores.new.seats.list closed.merged (about.0 ∙ ap (λ (n : MachineSpec). n.directory) r.1) (about.3 ∙ ap (λ (n : MachineSpec). n.events) r.1) c.put_all-cores.ensures.seats.1
     c.put_all-cores.result c.put_all-cores.ensures.ends c.close-slots.result.1 closed.receipt)
@@ -154,13 +154,13 @@ returns-clause-fabric g c =
     in let count : length done ≡ length jobs = sym c.in-Ok.done.ok.0 ∙ c.in-Ok.ensures.len ∙ c.in_ok-jobs.jobs.ok.0
     in let told : AreDone g.L.Run.program m g.L.Run.image t jobs done = λ i d less. let k = c.in-Ok.ensures.each i d less in (k.1.call.met.0, λ s. k.1.call.met.1 ∙ ap core_number (sym (k.1.job_is s)))
     in let f = c.in_ok-fabric.ensures
-    in let same = c.with_run-slots.ensures ∙ c.split.ensures ∙ ap₂ banks_at_start (ap (λ (h : History). h.machine) f ∙ r.1) (ap (λ (h : History). h.image) f ∙ r.2)
-    in let slots = slot_count (λ s. s.bank) m g.L.Run.image c.with_run-slots.result same
+    in let same = c.in_ok-slots.ensures ∙ c.split.ensures ∙ ap₂ banks_at_start (ap (λ (h : History). h.machine) f ∙ r.1) (ap (λ (h : History). h.image) f ∙ r.2)
+    in let slots = slot_count (λ s. s.bank.value) m g.L.Run.image c.in_ok-slots.slots same
     in let about = c.in_ok-table.ensures.table
     in let closed = c.close-slots.ensures
     in let l = c.laws.ensures
     in let run : HasRun g.L.Run.program m g.L.Run.image c.without_run.result c.put_all-cores.result c.close-slots.result.1 = (
-    has_run g.L.Run.program m g.L.Run.image t jobs done made count told l.legal l.apart l.sound (λ s. s.bank) c.close-slots.result.0 c.without_run.result c.without_run.ensures (closed.banks.0 ∙ about.2 ∙ slots)
+    has_run g.L.Run.program m g.L.Run.image t jobs done made count told l.legal l.apart l.sound (λ s. s.bank.value) c.close-slots.result.0 c.without_run.result c.without_run.ensures (closed.banks.0 ∙ about.2 ∙ slots)
     (λ b x e. (x.machine, x.image, closed.banks.1 b x e))
     c.in_ok-table.table.entries c.in_ok-table.table.events c.put_all-cores.new.seats.list closed.merged (about.0 ∙ ap (λ (n : MachineSpec). n.directory) r.1) (about.3 ∙ ap (λ (n : MachineSpec). n.events) r.1) c.put_all-cores.ensures.seats.1
     c.put_all-cores.result c.put_all-cores.ensures.ends c.close-slots.result.1 closed.receipt)
@@ -178,13 +178,13 @@ returns-clause-run g c =
     in let count : length done ≡ length jobs = sym c.in-Ok.done.ok.0 ∙ c.in-Ok.ensures.len ∙ c.in_ok-jobs.jobs.ok.0
     in let told : AreDone g.L.Run.program m g.L.Run.image t jobs done = λ i d less. let k = c.in-Ok.ensures.each i d less in (k.1.call.met.0, λ s. k.1.call.met.1 ∙ ap core_number (sym (k.1.job_is s)))
     in let f = c.in_ok-fabric.ensures
-    in let same = c.with_run-slots.ensures ∙ c.split.ensures ∙ ap₂ banks_at_start (ap (λ (h : History). h.machine) f ∙ r.1) (ap (λ (h : History). h.image) f ∙ r.2)
-    in let slots = slot_count (λ s. s.bank) m g.L.Run.image c.with_run-slots.result same
+    in let same = c.in_ok-slots.ensures ∙ c.split.ensures ∙ ap₂ banks_at_start (ap (λ (h : History). h.machine) f ∙ r.1) (ap (λ (h : History). h.image) f ∙ r.2)
+    in let slots = slot_count (λ s. s.bank.value) m g.L.Run.image c.in_ok-slots.slots same
     in let about = c.in_ok-table.ensures.table
     in let closed = c.close-slots.ensures
     in let l = c.laws.ensures
     in let run : HasRun g.L.Run.program m g.L.Run.image c.without_run.result c.put_all-cores.result c.close-slots.result.1 = (
-    has_run g.L.Run.program m g.L.Run.image t jobs done made count told l.legal l.apart l.sound (λ s. s.bank) c.close-slots.result.0 c.without_run.result c.without_run.ensures (closed.banks.0 ∙ about.2 ∙ slots)
+    has_run g.L.Run.program m g.L.Run.image t jobs done made count told l.legal l.apart l.sound (λ s. s.bank.value) c.close-slots.result.0 c.without_run.result c.without_run.ensures (closed.banks.0 ∙ about.2 ∙ slots)
     (λ b x e. (x.machine, x.image, closed.banks.1 b x e))
     c.in_ok-table.table.entries c.in_ok-table.table.events c.put_all-cores.new.seats.list closed.merged (about.0 ∙ ap (λ (n : MachineSpec). n.directory) r.1) (about.3 ∙ ap (λ (n : MachineSpec). n.events) r.1) c.put_all-cores.ensures.seats.1
     c.put_all-cores.result c.put_all-cores.ensures.ends c.close-slots.result.1 closed.receipt)

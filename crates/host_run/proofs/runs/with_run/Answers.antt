@@ -9,11 +9,11 @@ slot_of-requires-after_bounds g c κs within = next_of g.L.Run.machine g.L.Run.i
 
 pub slot_of-requires-in-Some-take_first-after_bounds : goal.slot_of-requires-in-Some-take_first-after_bounds
 slot_of-requires-in-Some-take_first-after_bounds g c κs within =
-    next_of g.L.Run.machine g.L.Run.image (map (λ s. s.bank) c.loop-bank.slots) c.loop-bank.banks c.take_first-in-loop-bank.new.self c.in-Some-take_first.bank c.loop-bank.invariant c.in-Some-take_first.ensures.some
+    next_of g.L.Run.machine g.L.Run.image (map (λ s. s.bank.value) c.loop-bank.slots) c.loop-bank.banks c.take_first-in-loop-bank.new.self c.in-Some-take_first.bank c.loop-bank.invariant c.in-Some-take_first.ensures.some
 
 pub push-requires : goal.push-requires
 push-requires g c =
-    let less = has_room (map (λ s. s.bank) c.loop-bank.slots) c.loop-bank.banks c.take_first-in-loop-bank.new.self (banks_at_start g.L.Run.machine g.L.Run.image) c.in-Some-take_first.bank c.loop-bank.invariant c.in-Some-take_first.ensures.some
+    let less = has_room (map (λ s. s.bank.value) c.loop-bank.slots) c.loop-bank.banks c.take_first-in-loop-bank.new.self (banks_at_start g.L.Run.machine g.L.Run.image) c.in-Some-take_first.bank c.loop-bank.invariant c.in-Some-take_first.ensures.some
     in let few = bank_count g.L.Run.machine g.L.Run.image
-    in let same = length-map c.loop-bank.slots (λ s. s.bank)
+    in let same = length-map c.loop-bank.slots (λ s. s.bank.value)
     in omega (arith, less, few, same)

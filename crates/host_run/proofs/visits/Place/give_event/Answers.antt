@@ -16,7 +16,7 @@ give-requires-send-S g c κs within = slot_crosses _ _ g.L.Run c.type_bounds.sen
 
 pub give-requires-clause-event : goal.give-requires-clause-event
 give-requires-clause-event g c κs within =
-    let b = c.args.held.value.bank
+    let b = c.args.held.value.bank.value
     in λ y there.
     subst (λ n. MayMake n c.args.seat.now.knows.side (events (seen b.bank c.args.seat.now)) y.event) (sym c.args.self.now.banks_are)
     (event_may c.laws.ensures g.L.Run.program g.L.Run.machine g.L.Run.image c.args.self.now.table.now.table c.args.seat.now c.args.run.now b c.args.stamp c.args.event.now c.args.held.value.machine c.args.held.value.image c.requires.slot c.requires.log c.requires.keeps c.requires.core c.requires.row c.requires.entering c.is_in_order.ensures.rows c.is_in_order.ensures.fitting
@@ -24,25 +24,25 @@ give-requires-clause-event g c κs within =
 
 pub give-requires-clause-others : goal.give-requires-clause-others
 give-requires-clause-others g c κs within =
-    event_others c.laws.ensures g.L.Run.program g.L.Run.machine g.L.Run.image c.args.self.now.table.now.table c.args.seat.now c.args.run.now c.args.held.value.bank c.args.stamp c.args.event.now c.args.held.value.machine c.args.held.value.image c.requires.slot c.requires.log c.requires.keeps c.requires.core c.requires.row c.requires.entering c.is_in_order.ensures.rows c.is_in_order.ensures.fitting
+    event_others c.laws.ensures g.L.Run.program g.L.Run.machine g.L.Run.image c.args.self.now.table.now.table c.args.seat.now c.args.run.now c.args.held.value.bank.value c.args.stamp c.args.event.now c.args.held.value.machine c.args.held.value.image c.requires.slot c.requires.log c.requires.keeps c.requires.core c.requires.row c.requires.entering c.is_in_order.ensures.rows c.is_in_order.ensures.fitting
 
 pub give-requires-clause-claims : goal.give-requires-clause-claims
 give-requires-clause-claims g c κs within =
-    event_claimed c.laws.ensures g.L.Run.program g.L.Run.machine g.L.Run.image c.args.self.now.table.now.table c.args.seat.now c.args.run.now c.args.held.value.bank c.args.stamp c.args.event.now c.args.held.value.machine c.args.held.value.image c.requires.slot c.requires.log c.requires.keeps c.requires.core c.requires.row c.requires.entering c.is_in_order.ensures.rows c.is_in_order.ensures.fitting
+    event_claimed c.laws.ensures g.L.Run.program g.L.Run.machine g.L.Run.image c.args.self.now.table.now.table c.args.seat.now c.args.run.now c.args.held.value.bank.value c.args.stamp c.args.event.now c.args.held.value.machine c.args.held.value.image c.requires.slot c.requires.log c.requires.keeps c.requires.core c.requires.row c.requires.entering c.is_in_order.ensures.rows c.is_in_order.ensures.fitting
 
 pub take_in-requires-clause-lane : goal.take_in-requires-clause-lane
 take_in-requires-clause-lane g c =
-    event_lane c.laws.ensures g.L.Run.program g.L.Run.machine g.L.Run.image c.args.self.now.table.now.table c.args.seat.now c.args.run.now c.args.held.value.bank c.args.stamp c.args.event.now c.args.held.value.machine c.args.held.value.image c.requires.slot c.requires.log c.requires.keeps c.requires.core c.requires.row c.requires.entering c.is_in_order.ensures.rows c.is_in_order.ensures.fitting
+    event_lane c.laws.ensures g.L.Run.program g.L.Run.machine g.L.Run.image c.args.self.now.table.now.table c.args.seat.now c.args.run.now c.args.held.value.bank.value c.args.stamp c.args.event.now c.args.held.value.machine c.args.held.value.image c.requires.slot c.requires.log c.requires.keeps c.requires.core c.requires.row c.requires.entering c.is_in_order.ensures.rows c.is_in_order.ensures.fitting
 
 pub take_in-requires-clause-issues : goal.take_in-requires-clause-issues
 take_in-requires-clause-issues g c =
-    event_issues c.laws.ensures g.L.Run.program g.L.Run.machine g.L.Run.image c.args.self.now.table.now.table c.args.seat.now c.args.run.now c.args.held.value.bank c.args.stamp c.args.event.now c.args.held.value.machine c.args.held.value.image c.requires.slot c.requires.log c.requires.keeps c.requires.core c.requires.row c.requires.entering c.is_in_order.ensures.rows c.is_in_order.ensures.fitting
+    event_issues c.laws.ensures g.L.Run.program g.L.Run.machine g.L.Run.image c.args.self.now.table.now.table c.args.seat.now c.args.run.now c.args.held.value.bank.value c.args.stamp c.args.event.now c.args.held.value.machine c.args.held.value.image c.requires.slot c.requires.log c.requires.keeps c.requires.core c.requires.row c.requires.entering c.is_in_order.ensures.rows c.is_in_order.ensures.fitting
     c.requires.above c.requires.below
 
 pub take_in-requires-clause-asks : goal.take_in-requires-clause-asks
 take_in-requires-clause-asks g c = λ on.
     let there =
-    event_asks c.laws.ensures g.L.Run.program g.L.Run.machine g.L.Run.image c.args.self.now.table.now.table c.args.seat.now c.args.run.now c.args.held.value.bank c.args.stamp c.args.event.now c.args.held.value.machine c.args.held.value.image c.requires.slot c.requires.log c.requires.keeps c.requires.core c.requires.row c.requires.entering c.is_in_order.ensures.rows c.is_in_order.ensures.fitting
+    event_asks c.laws.ensures g.L.Run.program g.L.Run.machine g.L.Run.image c.args.self.now.table.now.table c.args.seat.now c.args.run.now c.args.held.value.bank.value c.args.stamp c.args.event.now c.args.held.value.machine c.args.held.value.image c.requires.slot c.requires.log c.requires.keeps c.requires.core c.requires.row c.requires.entering c.is_in_order.ensures.rows c.is_in_order.ensures.fitting
     on
     in (
       there.0,
@@ -55,7 +55,7 @@ take_in-requires-clause-asks g c = λ on.
 pub returns-then-not-run-clause-turn : goal.returns-then-not-run-clause-turn
 returns-then-not-run-clause-turn g c =
     let in_it = c.take_in.ensures
-    in event_turn c.laws.ensures g.L.Run.program g.L.Run.machine g.L.Run.image c.args.self.now.table.now.table c.args.seat.now c.args.run.now c.args.held.value.bank c.args.stamp c.args.event.now c.args.held.value.machine c.args.held.value.image c.requires.slot c.requires.log c.requires.keeps c.requires.core c.requires.row c.requires.entering c.is_in_order.ensures.rows c.is_in_order.ensures.fitting
+    in event_turn c.laws.ensures g.L.Run.program g.L.Run.machine g.L.Run.image c.args.self.now.table.now.table c.args.seat.now c.args.run.now c.args.held.value.bank.value c.args.stamp c.args.event.now c.args.held.value.machine c.args.held.value.image c.requires.slot c.requires.log c.requires.keeps c.requires.core c.requires.row c.requires.entering c.is_in_order.ensures.rows c.is_in_order.ensures.fitting
     c.give.new.seat _ c.give.ensures c.requires.above c.is_in_order.ensures.rising c.requires.missed c.requires.home
     (in_it.core
     ∙ ap (λ p. after_answer p (at_stop p (core_config c.args.self.now.spec.now) c.args.run.now.core.state) c.args.event.now.kind) c.args.self.now.program_is
@@ -65,7 +65,7 @@ returns-then-not-run-clause-turn g c =
 pub returns-else-not-run-clause-turn : goal.returns-else-not-run-clause-turn
 returns-else-not-run-clause-turn g c =
     let in_it = c.take_in.ensures
-    in event_turn c.laws.ensures g.L.Run.program g.L.Run.machine g.L.Run.image c.args.self.now.table.now.table c.args.seat.now c.args.run.now c.args.held.value.bank c.args.stamp c.args.event.now c.args.held.value.machine c.args.held.value.image c.requires.slot c.requires.log c.requires.keeps c.requires.core c.requires.row c.requires.entering c.is_in_order.ensures.rows c.is_in_order.ensures.fitting
+    in event_turn c.laws.ensures g.L.Run.program g.L.Run.machine g.L.Run.image c.args.self.now.table.now.table c.args.seat.now c.args.run.now c.args.held.value.bank.value c.args.stamp c.args.event.now c.args.held.value.machine c.args.held.value.image c.requires.slot c.requires.log c.requires.keeps c.requires.core c.requires.row c.requires.entering c.is_in_order.ensures.rows c.is_in_order.ensures.fitting
     c.give.new.seat _ c.give.ensures c.requires.above c.is_in_order.ensures.rising c.requires.missed c.requires.home
     (in_it.core
     ∙ ap (λ p. after_answer p (at_stop p (core_config c.args.self.now.spec.now) c.args.run.now.core.state) c.args.event.now.kind) c.args.self.now.program_is

@@ -12,22 +12,22 @@ use Rattle.host_run.proofs.visits.Place.go_on.Goals as goal
 
 pub lane-event-requires-clause-new : goal.lane-event-requires-clause-new
 lane-event-requires-clause-new g c =
-    visit_new c.laws.ensures g.L.Run.program g.L.Run.machine g.L.Run.image c.args.self.now.table.now.table c.bank_of-bank.result c.hold-held.result.value.bank c.in-Some.stamp c.args.seat.now c.draw.new.seat c.args.run.now c.hold-held.new.run
-    (is_drawn g.L.Run.program g.L.Run.machine g.L.Run.image c.args.self.now.table.now.table c.bank_of-bank.result c.hold-held.result.value.bank c.in-Some.stamp c.args.seat.now c.hold-held.new.seat c.draw.new.seat c.args.run.now c.hold-held.new.run c.hold-held.result.value.machine c.hold-held.result.value.image c.hold-held.ensures.bank c.hold-held.ensures.slot c.hold-held.ensures.seat c.hold-held.ensures.claims c.hold-held.ensures.run c.draw.result c.in-Some.is c.draw.ensures.some c.draw.ensures.keeps c.draw.ensures.seat c.draw.ensures.claims) c.args.self.now.core c.requires.core c.look-look.result
+    visit_new c.laws.ensures g.L.Run.program g.L.Run.machine g.L.Run.image c.args.self.now.table.now.table c.bank_of-bank.result c.hold-held.result.value.bank.value c.in-Some.stamp c.args.seat.now c.draw.new.seat c.args.run.now c.hold-held.new.run
+    (is_drawn g.L.Run.program g.L.Run.machine g.L.Run.image c.args.self.now.table.now.table c.bank_of-bank.result c.hold-held.result.value.bank.value c.in-Some.stamp c.args.seat.now c.hold-held.new.seat c.draw.new.seat c.args.run.now c.hold-held.new.run c.hold-held.result.value.machine c.hold-held.result.value.image c.hold-held.ensures.bank c.hold-held.ensures.slot c.hold-held.ensures.seat c.hold-held.ensures.claims c.hold-held.ensures.run c.draw.result c.in-Some.is c.draw.ensures.some c.draw.ensures.keeps c.draw.ensures.seat c.draw.ensures.claims) c.args.self.now.core c.requires.core c.look-look.result
     (c.look-look.ensures.look g.L.Run.machine (own_events c.args.seat.now) (subst (λ d. KeepsEvents g.L.Run.machine d (own_events c.args.seat.now) c.args.run.now.own) (sym c.requires.core) c.requires.turn.keeps.peis.kept) (ap (λ (x : MachineSpec). x.buffer) c.args.self.now.machine_is) ∙ ap (bank_look g.L.Run.machine (own_state g.L.Run.machine c.args.seat.now)) c.requires.core)
 
 pub give_event-requires-clause-row : goal.give_event-requires-clause-row
 give_event-requires-clause-row g c κs within =
     subst (λ j. IsRowIn g.L.Run.program g.L.Run.machine g.L.Run.image j (events (seen j c.draw.new.seat)) (own_events c.draw.new.seat) c.lane-event.result) (sym (ap (λ (h : BankHistory). h.bank) c.lane-event.ensures.log ∙ c.hold-held.ensures.bank))
-    (visit_row c.laws.ensures g.L.Run.program g.L.Run.machine g.L.Run.image c.args.self.now.table.now.table c.bank_of-bank.result c.hold-held.result.value.bank c.in-Some.stamp c.args.seat.now c.draw.new.seat c.args.run.now c.hold-held.new.run
-    (is_drawn g.L.Run.program g.L.Run.machine g.L.Run.image c.args.self.now.table.now.table c.bank_of-bank.result c.hold-held.result.value.bank c.in-Some.stamp c.args.seat.now c.hold-held.new.seat c.draw.new.seat c.args.run.now c.hold-held.new.run c.hold-held.result.value.machine c.hold-held.result.value.image c.hold-held.ensures.bank c.hold-held.ensures.slot c.hold-held.ensures.seat c.hold-held.ensures.claims c.hold-held.ensures.run c.draw.result c.in-Some.is c.draw.ensures.some c.draw.ensures.keeps c.draw.ensures.seat c.draw.ensures.claims) c.args.self.now.core c.requires.core c.look-look.result
+    (visit_row c.laws.ensures g.L.Run.program g.L.Run.machine g.L.Run.image c.args.self.now.table.now.table c.bank_of-bank.result c.hold-held.result.value.bank.value c.in-Some.stamp c.args.seat.now c.draw.new.seat c.args.run.now c.hold-held.new.run
+    (is_drawn g.L.Run.program g.L.Run.machine g.L.Run.image c.args.self.now.table.now.table c.bank_of-bank.result c.hold-held.result.value.bank.value c.in-Some.stamp c.args.seat.now c.hold-held.new.seat c.draw.new.seat c.args.run.now c.hold-held.new.run c.hold-held.result.value.machine c.hold-held.result.value.image c.hold-held.ensures.bank c.hold-held.ensures.slot c.hold-held.ensures.seat c.hold-held.ensures.claims c.hold-held.ensures.run c.draw.result c.in-Some.is c.draw.ensures.some c.draw.ensures.keeps c.draw.ensures.seat c.draw.ensures.claims) c.args.self.now.core c.requires.core c.look-look.result
     (c.look-look.ensures.look g.L.Run.machine (own_events c.args.seat.now) (subst (λ d. KeepsEvents g.L.Run.machine d (own_events c.args.seat.now) c.args.run.now.own) (sym c.requires.core) c.requires.turn.keeps.peis.kept) (ap (λ (x : MachineSpec). x.buffer) c.args.self.now.machine_is) ∙ ap (bank_look g.L.Run.machine (own_state g.L.Run.machine c.args.seat.now)) c.requires.core)
     c.args.lane c.requires.lane.0 c.requires.lane.1 c.args.pei c.requires.pei.0 c.requires.pei.1 false c.requires.pei.2 c.lane-event.result c.lane-event.ensures.actor c.lane-event.ensures.row)
 
 pub give_event-requires-clause-entering : goal.give_event-requires-clause-entering
 give_event-requires-clause-entering g c κs within =
-    visit_entering c.laws.ensures g.L.Run.program g.L.Run.machine g.L.Run.image c.args.self.now.table.now.table c.bank_of-bank.result c.hold-held.result.value.bank c.in-Some.stamp c.args.seat.now c.draw.new.seat c.args.run.now c.hold-held.new.run
-    (is_drawn g.L.Run.program g.L.Run.machine g.L.Run.image c.args.self.now.table.now.table c.bank_of-bank.result c.hold-held.result.value.bank c.in-Some.stamp c.args.seat.now c.hold-held.new.seat c.draw.new.seat c.args.run.now c.hold-held.new.run c.hold-held.result.value.machine c.hold-held.result.value.image c.hold-held.ensures.bank c.hold-held.ensures.slot c.hold-held.ensures.seat c.hold-held.ensures.claims c.hold-held.ensures.run c.draw.result c.in-Some.is c.draw.ensures.some c.draw.ensures.keeps c.draw.ensures.seat c.draw.ensures.claims) c.args.self.now.core c.requires.core c.look-look.result
+    visit_entering c.laws.ensures g.L.Run.program g.L.Run.machine g.L.Run.image c.args.self.now.table.now.table c.bank_of-bank.result c.hold-held.result.value.bank.value c.in-Some.stamp c.args.seat.now c.draw.new.seat c.args.run.now c.hold-held.new.run
+    (is_drawn g.L.Run.program g.L.Run.machine g.L.Run.image c.args.self.now.table.now.table c.bank_of-bank.result c.hold-held.result.value.bank.value c.in-Some.stamp c.args.seat.now c.hold-held.new.seat c.draw.new.seat c.args.run.now c.hold-held.new.run c.hold-held.result.value.machine c.hold-held.result.value.image c.hold-held.ensures.bank c.hold-held.ensures.slot c.hold-held.ensures.seat c.hold-held.ensures.claims c.hold-held.ensures.run c.draw.result c.in-Some.is c.draw.ensures.some c.draw.ensures.keeps c.draw.ensures.seat c.draw.ensures.claims) c.args.self.now.core c.requires.core c.look-look.result
     (c.look-look.ensures.look g.L.Run.machine (own_events c.args.seat.now) (subst (λ d. KeepsEvents g.L.Run.machine d (own_events c.args.seat.now) c.args.run.now.own) (sym c.requires.core) c.requires.turn.keeps.peis.kept) (ap (λ (x : MachineSpec). x.buffer) c.args.self.now.machine_is) ∙ ap (bank_look g.L.Run.machine (own_state g.L.Run.machine c.args.seat.now)) c.requires.core)
     c.args.lane c.requires.lane.0 c.requires.lane.1 c.args.pei c.requires.pei.0 c.requires.pei.1 false c.requires.pei.2 c.lane-event.result c.lane-event.ensures.actor c.lane-event.ensures.row
     (λ on. absurd (cc on))
@@ -35,14 +35,14 @@ give_event-requires-clause-entering g c κs within =
 pub give_event-requires-clause-home : goal.give_event-requires-clause-home
 give_event-requires-clause-home g c κs within =
     subst (λ j. FencesAtHome (core_of c.draw.new.seat) (record { bank = j; event = c.lane-event.result })) (sym (ap (λ (h : BankHistory). h.bank) c.lane-event.ensures.log ∙ c.hold-held.ensures.bank))
-    (visit_home c.laws.ensures g.L.Run.program g.L.Run.machine g.L.Run.image c.args.self.now.table.now.table c.bank_of-bank.result c.hold-held.result.value.bank c.in-Some.stamp c.args.seat.now c.draw.new.seat c.args.run.now c.hold-held.new.run
-    (is_drawn g.L.Run.program g.L.Run.machine g.L.Run.image c.args.self.now.table.now.table c.bank_of-bank.result c.hold-held.result.value.bank c.in-Some.stamp c.args.seat.now c.hold-held.new.seat c.draw.new.seat c.args.run.now c.hold-held.new.run c.hold-held.result.value.machine c.hold-held.result.value.image c.hold-held.ensures.bank c.hold-held.ensures.slot c.hold-held.ensures.seat c.hold-held.ensures.claims c.hold-held.ensures.run c.draw.result c.in-Some.is c.draw.ensures.some c.draw.ensures.keeps c.draw.ensures.seat c.draw.ensures.claims) c.args.self.now.core c.requires.core c.look-look.result
+    (visit_home c.laws.ensures g.L.Run.program g.L.Run.machine g.L.Run.image c.args.self.now.table.now.table c.bank_of-bank.result c.hold-held.result.value.bank.value c.in-Some.stamp c.args.seat.now c.draw.new.seat c.args.run.now c.hold-held.new.run
+    (is_drawn g.L.Run.program g.L.Run.machine g.L.Run.image c.args.self.now.table.now.table c.bank_of-bank.result c.hold-held.result.value.bank.value c.in-Some.stamp c.args.seat.now c.hold-held.new.seat c.draw.new.seat c.args.run.now c.hold-held.new.run c.hold-held.result.value.machine c.hold-held.result.value.image c.hold-held.ensures.bank c.hold-held.ensures.slot c.hold-held.ensures.seat c.hold-held.ensures.claims c.hold-held.ensures.run c.draw.result c.in-Some.is c.draw.ensures.some c.draw.ensures.keeps c.draw.ensures.seat c.draw.ensures.claims) c.args.self.now.core c.requires.core c.look-look.result
     (c.look-look.ensures.look g.L.Run.machine (own_events c.args.seat.now) (subst (λ d. KeepsEvents g.L.Run.machine d (own_events c.args.seat.now) c.args.run.now.own) (sym c.requires.core) c.requires.turn.keeps.peis.kept) (ap (λ (x : MachineSpec). x.buffer) c.args.self.now.machine_is) ∙ ap (bank_look g.L.Run.machine (own_state g.L.Run.machine c.args.seat.now)) c.requires.core)
     c.args.lane c.requires.lane.0 c.requires.lane.1 c.args.pei c.requires.pei.0 c.requires.pei.1 false c.requires.pei.2 c.lane-event.result c.lane-event.ensures.actor c.lane-event.ensures.row)
 
 pub give_event-requires-clause-ending : goal.give_event-requires-clause-ending
 give_event-requires-clause-ending g c κs within =
-    visit_ends c.laws.ensures g.L.Run.program g.L.Run.machine g.L.Run.image c.args.self.now.table.now.table c.bank_of-bank.result c.hold-held.result.value.bank c.in-Some.stamp c.args.seat.now c.draw.new.seat c.args.run.now c.hold-held.new.run
-    (is_drawn g.L.Run.program g.L.Run.machine g.L.Run.image c.args.self.now.table.now.table c.bank_of-bank.result c.hold-held.result.value.bank c.in-Some.stamp c.args.seat.now c.hold-held.new.seat c.draw.new.seat c.args.run.now c.hold-held.new.run c.hold-held.result.value.machine c.hold-held.result.value.image c.hold-held.ensures.bank c.hold-held.ensures.slot c.hold-held.ensures.seat c.hold-held.ensures.claims c.hold-held.ensures.run c.draw.result c.in-Some.is c.draw.ensures.some c.draw.ensures.keeps c.draw.ensures.seat c.draw.ensures.claims) c.args.self.now.core c.requires.core c.look-look.result
+    visit_ends c.laws.ensures g.L.Run.program g.L.Run.machine g.L.Run.image c.args.self.now.table.now.table c.bank_of-bank.result c.hold-held.result.value.bank.value c.in-Some.stamp c.args.seat.now c.draw.new.seat c.args.run.now c.hold-held.new.run
+    (is_drawn g.L.Run.program g.L.Run.machine g.L.Run.image c.args.self.now.table.now.table c.bank_of-bank.result c.hold-held.result.value.bank.value c.in-Some.stamp c.args.seat.now c.hold-held.new.seat c.draw.new.seat c.args.run.now c.hold-held.new.run c.hold-held.result.value.machine c.hold-held.result.value.image c.hold-held.ensures.bank c.hold-held.ensures.slot c.hold-held.ensures.seat c.hold-held.ensures.claims c.hold-held.ensures.run c.draw.result c.in-Some.is c.draw.ensures.some c.draw.ensures.keeps c.draw.ensures.seat c.draw.ensures.claims) c.args.self.now.core c.requires.core c.look-look.result
     (c.look-look.ensures.look g.L.Run.machine (own_events c.args.seat.now) (subst (λ d. KeepsEvents g.L.Run.machine d (own_events c.args.seat.now) c.args.run.now.own) (sym c.requires.core) c.requires.turn.keeps.peis.kept) (ap (λ (x : MachineSpec). x.buffer) c.args.self.now.machine_is) ∙ ap (bank_look g.L.Run.machine (own_state g.L.Run.machine c.args.seat.now)) c.requires.core)
     c.args.lane c.requires.lane.0 c.requires.lane.1 c.args.pei c.requires.pei.0 c.requires.pei.1 false c.requires.pei.2 c.lane-event.result c.lane-event.ensures.actor c.lane-event.ensures.row

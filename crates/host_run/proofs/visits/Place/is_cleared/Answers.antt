@@ -4,4 +4,4 @@ use Rattle.host_run.proofs.visits.Place.is_cleared.Goals as goal
 
 pub returns-in-None : goal.returns-in-None
 returns-in-None g c = λ on.
-    is_cleared c.laws.ensures c.args.bank.now c.args.begin (record { rows = c.is_in_order.ensures.rows; fitting = c.is_in_order.ensures.fitting }) (sym c.fence_waits.ensures ∙ c.in-None.is)
+    is_cleared c.laws.ensures c.args.slot.now.bank.value c.args.begin (record { rows = c.is_in_order.ensures.rows; fitting = c.is_in_order.ensures.fitting }) (sym c.fence_waits.ensures ∙ c.in-None.is)
