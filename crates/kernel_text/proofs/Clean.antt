@@ -7,13 +7,14 @@ use Rattle.std.proofs.lemmas.List.{map-append}
 use Rattle.std.proofs.lemmas.List.Folds.{list_any-append}
 use Rattle.std.proofs.lemmas.Slice.Eq.{bytes_eq-Decides}
 use Rattle.kernel_text.specs.declared.faults.KernelKind.{KernelKind}
+use Rattle.kernel_text.specs.declared.faults.KernelKind.TheVariants as kind
 use Rattle.kernel_text.specs.declared.places.Place.{Place}
 use Rattle.kernel_text.specs.declared.senses.Role.{Role}
 use Rattle.kernel_text.specs.declared.senses.Role.TheVariants as role
 use Rattle.kernel_text.specs.declared.senses.Wanted.{Wanted}
 use Rattle.kernel_text.specs.Tokens.{Token, Placed, text_of, value_of}
 use Rattle.kernel_text.specs.Characters.{kind_of_characters, character_fault, first_character_fault, fault_at}
-use Rattle.kernel_text.specs.Readings.{Reading, read}
+use Rattle.kernel_text.specs.Readings.{Reading, read, may_end}
 use Rattle.kernel_text.specs.Known.{Known, kind_of, is_in, sets, count_of, known_after, with_name, words_after, declared_after}
 use Rattle.kernel_text.specs.Faults.{first_token_fault, fault_of_token, behind_token, next_of, kind_of_trials, trials, is_too_nested, is_declared, is_double_name, is_unknown, is_wrong_kind, is_loop_variable, is_one_variable_too_many, is_bad_size, is_one_value_too_many, has_too_many_words, is_too_deep, is_too_long}
 use Rattle.kernel_text.specs.Sound.{AreDistinctNames, is_among}
@@ -42,22 +43,27 @@ pub record Limits (k : Known) : Type 0 where
   pub begun : k.begun ≤ 4000
   pub names : AreDistinctNames (map (λ p. p.0) k.declared)
 
+-- the limits are kept, and the text may end
+pub record Ended (k : Known) : Type 0 where
+  pub limits : Limits k
+  pub finished : may_end k.wanted ≡ true
+
 -- what is known, but for what is wanted
 abbrev pub aside : Known → Known
 aside k = record k { wanted = [] }
 
-CleanBy : Known → Token → (Known → Type 0) → Option Reading → Type 0
+unfoldable pub CleanBy : Known → Token → (Known → Type 0) → Option Reading → Type 0
 CleanBy k t later None = ⊥
 CleanBy k t later (Some r) = Passed k r.role r.begins t × later (known_after k r t)
 
--- none of these tokens is at fault, and the limits are kept behind them
-pub Clean : List Token → Known → Type 0
-Clean [] k = Limits k
+-- none of these tokens is at fault, and behind them the limits are kept and the text may end
+unfoldable pub Clean : List Token → Known → Type 0
+Clean [] k = Ended k
 Clean (t ∷ ts) k = CleanBy (aside k) t (Clean ts) (read k.wanted t (first ts))
 
 pub at_end : (k : Known) → Clean [] k → Limits k
 unfolding Clean
-at_end k c = c
+at_end k c = c.limits
 
 pub step : (k : Known) (t : Token) (ts : List Token) (r : Reading) → read k.wanted t (first ts) ≡ Some r → Clean (t ∷ ts) k → Passed (aside k) r.role r.begins t × Clean ts (known_after k r t)
 unfolding Clean CleanBy
@@ -68,10 +74,11 @@ read_alike : (k : Known) (ws us : List Wanted) (t : Token) (ts : List Token) →
 unfolding Clean
 read_alike k ws us t ts e c = subst (CleanBy (aside k) t (Clean ts)) e c
 
-pub alike : (k : Known) (ws us : List Wanted) (ts : List Token) → ((t : Token) (rest : List Token) → ts ≡ t ∷ rest → read ws t (first rest) ≡ read us t (first rest)) → Clean ts (record k { wanted = ws }) → Clean ts (record k { wanted = us })
+pub alike : (k : Known) (ws us : List Wanted) (ts : List Token) → (may_end ws ≡ true → may_end us ≡ true) → ((t : Token) (rest : List Token) → ts ≡ t ∷ rest → read ws t (first rest) ≡ read us t (first rest))
+    → Clean ts (record k { wanted = ws }) → Clean ts (record k { wanted = us })
 unfolding Clean
-alike k ws us [] same c = record { variables = c.variables; words = c.words; begun = c.begun; names = c.names }
-alike k ws us (t ∷ ts) same c = read_alike k ws us t ts (same t ts refl) c
+alike k ws us [] ends same c = record { limits = record { variables = c.limits.variables; words = c.limits.words; begun = c.limits.begun; names = c.limits.names }; finished = ends c.finished }
+alike k ws us (t ∷ ts) ends same c = read_alike k ws us t ts (same t ts refl) c
 
 -- ---- the limits are kept
 
@@ -87,15 +94,16 @@ words_kept : (r : Role) (words n : ℕ) → has_too_many_words r words n ≡ fal
 words_kept role.Sizes words n e h = ltb-false 32768 (words + n) e
 words_kept _ words n e h = h
 
-none_of_them : (declared : List (List ℕ × Bool)) (x : List ℕ) → is_declared (kind_of declared x) ≡ false → is_among (map (λ p. p.0) declared) x ≡ false
-none_of_them [] x e = refl
-none_of_them (d ∷ ds) x e = by_first (bytes_eq x d.0) e (none_of_them ds x)
+-- a name is known as declared where it is among the declared names
+pub declared_among : (declared : List (List ℕ × Bool)) (x : List ℕ) → is_declared (kind_of declared x) ≡ is_among (map (λ p. p.0) declared) x
+declared_among [] x = refl
+declared_among (d ∷ ds) x = by_first (bytes_eq x d.0) (declared_among ds x)
   where
-    by_first : (b : Bool) → is_declared (if b then Some d.1 else kind_of ds x) ≡ false → (is_declared (kind_of ds x) ≡ false → is_among (map (λ p. p.0) ds) x ≡ false) → (b || is_among (map (λ p. p.0) ds) x) ≡ false
-    by_first true e more = absurd (cc e)
-    by_first false e more = more e
+    by_first : (b : Bool) → is_declared (kind_of ds x) ≡ is_among (map (λ p. p.0) ds) x → is_declared (if b then Some d.1 else kind_of ds x) ≡ (b || is_among (map (λ p. p.0) ds) x)
+    by_first true e = refl
+    by_first false e = e
 
-other_way : (x y : List ℕ) → bytes_eq x y ≡ false → bytes_eq y x ≡ false
+pub other_way : (x y : List ℕ) → bytes_eq x y ≡ false → bytes_eq y x ≡ false
 other_way x y e = false_from_ne_true (bytes_eq y x) (λ h. contrary (sym e ∙ (bytes_eq-Decides x y).1 (sym ((bytes_eq-Decides y x).0 h))))
   where
     contrary : false ≡ true → ⊥
@@ -114,7 +122,7 @@ distinct_more (y ∷ ys) x d e =
     not_true false h = refl
 
 names_kept : (r : Role) (declared : List (List ℕ × Bool)) (x : List ℕ) → is_double_name r (kind_of declared x) ≡ false → AreDistinctNames (map (λ p. p.0) declared) → AreDistinctNames (map (λ p. p.0) (declared_after declared r x))
-names_kept (role.Declares array) declared x e d = subst AreDistinctNames (sym (map-append (λ p. p.0) declared ((x, array) ∷ []))) (distinct_more (map (λ p. p.0) declared) x d (none_of_them declared x e))
+names_kept (role.Declares array) declared x e d = subst AreDistinctNames (sym (map-append (λ p. p.0) declared ((x, array) ∷ []))) (distinct_more (map (λ p. p.0) declared) x d (sym (declared_among declared x) ∙ e))
 names_kept _ declared x e d = d
 
 limits_kept : (k : Known) (r : Reading) (t : Token) → Passed (aside k) r.role r.begins t → Limits k → Limits (known_after k r t)
@@ -171,7 +179,11 @@ neither (Some x) b e = absurd (cc e)
 
 pub faultless_is_clean : (end : Place) (ts : List Placed) (k : Known) → first_character_fault ts ≡ None → first_token_fault end ts k ≡ None → Limits k → Clean (tokens_at ts) k
 unfolding Clean CleanBy
-faultless_is_clean end [] k characters e l = l
+faultless_is_clean end [] k characters e l = record { limits = l; finished = by_end (may_end k.wanted) e }
+  where
+    by_end : (b : Bool) → (if b then None else Some (fault_at end kind.Syntax)) ≡ None → b ≡ true
+    by_end true h = refl
+    by_end false h = absurd (cc h)
 faultless_is_clean end (t ∷ ts) k characters e l =
     let c = neither (character_fault t) (first_character_fault ts) characters
     in subst (λ o. CleanBy (aside k) t.token (Clean (tokens_at ts)) (read k.wanted t.token o)) (next_is_first ts)

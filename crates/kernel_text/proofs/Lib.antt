@@ -20,3 +20,7 @@ pub mod Walking
 pub mod WalkingTerms
 pub mod WalkingActions
 pub mod WalkingWhole
+pub mod Returning
+pub mod ReturningTerms
+pub mod ReturningActions
+pub mod ReturningWhole

@@ -34,7 +34,7 @@ is_quiet (role.ReadsVariable room) = true
 is_quiet role.ReadsItem = true
 is_quiet _ = false
 
-quiet_after : (k : Known) (vs ls : List (List ℕ)) (b n : ℕ) (ws us : List Wanted) (t : Token) (r : Role) (begins : Bool) → is_quiet r ≡ true
+pub quiet_after : (k : Known) (vs ls : List (List ℕ)) (b n : ℕ) (ws us : List Wanted) (t : Token) (r : Role) (begins : Bool) → is_quiet r ≡ true
     → known_after (at k vs ls b n ws) (sense r begins us) t ≡ at k vs ls (b + count_of (opens t) - count_of (closes t)) (n + count_of begins) us
 quiet_after k vs ls b n ws us t role.Plain begins q = refl
 quiet_after k vs ls b n ws us t role.Turns begins q = refl
@@ -187,7 +187,7 @@ count k ds vs ls b n ws us x ts d e c =
     let s = step (at k vs ls b n ws) (word x) ts (sense role.Counts false us) e c
     in (can_set k ds ls x d s.0.wrong s.0.loop, counted k (with_variable vs x) (ls ++ x ∷ []) _ b _ n us ts (omega arith) (omega arith) s.1)
 
-without_last : (ls : List (List ℕ)) (x : List ℕ) → take (length (ls ++ x ∷ []) - 1) (ls ++ x ∷ []) ≡ ls
+pub without_last : (ls : List (List ℕ)) (x : List ℕ) → take (length (ls ++ x ∷ []) - 1) (ls ++ x ∷ []) ≡ ls
 without_last ls x = let e : length (ls ++ x ∷ []) - 1 ≡ length ls = simp length-append (omega arith) in ap (λ n. take n (ls ++ x ∷ [])) e ∙ front ls
   where
     front : (ls : List (List ℕ)) → take (length ls) (ls ++ x ∷ []) ≡ ls

@@ -29,19 +29,19 @@ Done k ds vs ls b n ws a us =
 larger : (b m n : ℕ) → b + m ≤ 16 → b + n ≤ 16 → b + max m n ≤ 16
 larger b m n p q = omega (arith, p, q)
 
-abbrev before : List Wanted → List Wanted
+abbrev pub before : List Wanted → List Wanted
 before ws = wanted.Statements ∷ ws
 
 -- an index, and what is wanted behind it
-abbrev indexing : List Wanted → List Wanted
+abbrev pub indexing : List Wanted → List Wanted
 indexing ws = wanted.Mark (byte "[") ∷ wanted.Term deepest ∷ wanted.MoreTerms deepest ∷ wanted.Mark (byte "]") ∷ ws
 
 -- a value, and what is wanted behind it
-abbrev valued : List Wanted → List Wanted
+abbrev pub valued : List Wanted → List Wanted
 valued ws = wanted.Term deepest ∷ wanted.MoreTerms deepest ∷ wanted.Mark (byte ";") ∷ ws
 
 -- four operands
-abbrev passing : List Wanted → List Wanted
+abbrev pub passing : List Wanted → List Wanted
 passing ws = wanted.Operand ∷ wanted.Mark (byte ",") ∷ wanted.Operand ∷ wanted.Mark (byte ",") ∷ wanted.Operand ∷ wanted.Mark (byte ",") ∷ wanted.Operand ∷ wanted.Mark (byte ";") ∷ ws
 
 module _ (k : Known) (ds : List Declaration) (ls : List (List ℕ)) (declares : Declares k ds) where
@@ -140,7 +140,7 @@ module _ (k : Known) (ds : List Declaration) (ls : List (List ℕ)) (declares : 
       in let q = marked (with_variable (with_variable vs x) y) (byte "=") b (n + 1 + 0) (wanted.Mark (byte "=") ∷ wanted.TwoWords ∷ before ws) (wanted.TwoWords ∷ before ws) us refl refl (λ next. refl) r.1
       in (s.0, r.0, counted k (with_variable (with_variable vs x) y) ls b b (n + 1 + 0) (n + 1) (wanted.TwoWords ∷ before ws) us refl (omega arith) q)
 
-  second_free : (x y : List ℕ) (rest : List (List ℕ)) → list_all is_free (x ∷ y ∷ rest) ≡ true → (is_free x ≡ true) × (is_free y ≡ true) × (list_all is_free rest ≡ true)
+  pub second_free : (x y : List ℕ) (rest : List (List ℕ)) → list_all is_free (x ∷ y ∷ rest) ≡ true → (is_free x ≡ true) × (is_free y ≡ true) × (list_all is_free rest ≡ true)
   second_free x y rest g =
       let a = and_parts (is_free x) (list_all is_free (y ∷ rest)) g
       in let b = and_parts (is_free y) (list_all is_free rest) a.1

@@ -37,7 +37,7 @@ abbrev Walked : Known → List Declaration → List (List ℕ) → List (List �
 Walked k ds vs ls b n room ws e us = RightAt ds vs b room e × Clean us (at k vs ls b (n + parts e) ws)
 
 -- behind an expression that is no term, further terms are wanted
-abbrev Fits : Expression → ℕ → List Wanted → Type 0
+abbrev pub Fits : Expression → ℕ → List Wanted → Type 0
 Fits e room ws = (is_term e ≡ true) ⊎ ((rest : List Wanted) × (ws ≡ wanted.MoreTerms room ∷ rest))
 
 pub small : (v : ℕ) (b : Bool) → (if b then None else Some kind.NumberTooLarge) ≡ None → (b ≡ true → v < 18446744073709551616) → v < 18446744073709551616
@@ -47,18 +47,18 @@ small v false e h = absurd (cc e)
 some_room : (room : ℕ) → (room == 0) ≡ false → 1 ≤ room
 some_room room e = let apart = eqb-false room 0 e in omega (arith, apart)
 
-no_bracket_next : (us : List Token) → ends_term us ≡ true → opens_bracket (first us) ≡ false
+pub no_bracket_next : (us : List Token) → ends_term us ≡ true → opens_bracket (first us) ≡ false
 no_bracket_next us h = not-true (opens_bracket (first us)) h
 
-reads_variable : (room : ℕ) (ws : List Wanted) (x : List ℕ) (next : Option Token) → is_free x ≡ true → opens_bracket next ≡ false
+pub reads_variable : (room : ℕ) (ws : List Wanted) (x : List ℕ) (next : Option Token) → is_free x ≡ true → opens_bracket next ≡ false
     → read (wanted.Term room ∷ ws) (word x) next ≡ Some (sense (role.ReadsVariable room) true ws)
 reads_variable room ws x next free apart = rw (free, apart) refl
 
-reads_item : (room : ℕ) (ws : List Wanted) (x : List ℕ) → is_free x ≡ true
+pub reads_item : (room : ℕ) (ws : List Wanted) (x : List ℕ) → is_free x ≡ true
     → read (wanted.Term room ∷ ws) (word x) (Some (mark (byte "["))) ≡ Some (sense role.ReadsItem true (wanted.Mark (byte "[") ∷ wanted.Term room ∷ wanted.MoreTerms room ∷ wanted.Mark (byte "]") ∷ ws))
 reads_item room ws x free = rw free refl
 
-reads_operator : (room : ℕ) (ws : List Wanted) (o : Operator) (next : Option Token) → read (wanted.MoreTerms room ∷ ws) (operator o) next ≡ Some (sense role.Plain true (wanted.Term (room - 1) ∷ wanted.MoreTerms room ∷ ws))
+pub reads_operator : (room : ℕ) (ws : List Wanted) (o : Operator) (next : Option Token) → read (wanted.MoreTerms room ∷ ws) (operator o) next ≡ Some (sense role.Plain true (wanted.Term (room - 1) ∷ wanted.MoreTerms room ∷ ws))
 reads_operator room ws op.Add next = refl
 reads_operator room ws op.Sub next = refl
 reads_operator room ws op.Mul next = refl
@@ -66,7 +66,7 @@ reads_operator room ws op.And next = refl
 reads_operator room ws op.Or next = refl
 reads_operator room ws op.Xor next = refl
 
-operator_opens_nothing : (o : Operator) → (opens (operator o) ≡ false) × (closes (operator o) ≡ false)
+pub operator_opens_nothing : (o : Operator) → (opens (operator o) ≡ false) × (closes (operator o) ≡ false)
 operator_opens_nothing op.Add = (refl, refl)
 operator_opens_nothing op.Sub = (refl, refl)
 operator_opens_nothing op.Mul = (refl, refl)
@@ -74,7 +74,7 @@ operator_opens_nothing op.And = (refl, refl)
 operator_opens_nothing op.Or = (refl, refl)
 operator_opens_nothing op.Xor = (refl, refl)
 
-some_depth : (e : Expression) → 1 ≤ depth e
+pub some_depth : (e : Expression) → 1 ≤ depth e
 some_depth (num v) = omega arith
 some_depth (named x) = omega arith
 some_depth (item x i) = some_depth i
@@ -180,7 +180,7 @@ module _ (k : Known) (ds : List Declaration) (vs ls : List (List ℕ)) (declares
 
 -- ---- what is assigned, where it is an expression
 
-reads_value : (t : Token) (next : Option Token) (ws : List Wanted) → is_word (codes "dot") t ≡ false → read (wanted.OneWord ∷ ws) t next ≡ read (wanted.Term deepest ∷ wanted.MoreTerms deepest ∷ wanted.Mark (byte ";") ∷ ws) t next
+pub reads_value : (t : Token) (next : Option Token) (ws : List Wanted) → is_word (codes "dot") t ≡ false → read (wanted.OneWord ∷ ws) t next ≡ read (wanted.Term deepest ∷ wanted.MoreTerms deepest ∷ wanted.Mark (byte ";") ∷ ws) t next
 reads_value t next ws h = ap (λ (b : Bool). option_or (before (if b then dotted else before (of_term deepest t next) (wanted.MoreTerms deepest ∷ ending)) ws) None) h ∙ ap (λ o. option_or o None) (sym (before_before (of_term deepest t next) (wanted.MoreTerms deepest ∷ ending) ws))
   where
     dotted : Option Reading
@@ -189,5 +189,5 @@ reads_value t next ws h = ap (λ (b : Bool). option_or (before (if b then dotted
 pub value_alike : (k : Known) (vs ls : List (List ℕ)) (b n : ℕ) (ws : List Wanted) (e : Expression) (us : List Token) → is_expression e ≡ true → Clean (expression e ++ us) (at k vs ls b n (wanted.OneWord ∷ ws))
     → Clean (expression e ++ us) (at k vs ls b n (wanted.Term deepest ∷ wanted.MoreTerms deepest ∷ wanted.Mark (byte ";") ∷ ws))
 value_alike k vs ls b n ws e us g c =
-    alike (at k vs ls b n []) (wanted.OneWord ∷ ws) (wanted.Term deepest ∷ wanted.MoreTerms deepest ∷ wanted.Mark (byte ";") ∷ ws) (expression e ++ us)
+    alike (at k vs ls b n []) (wanted.OneWord ∷ ws) (wanted.Term deepest ∷ wanted.MoreTerms deepest ∷ wanted.Mark (byte ";") ∷ ws) (expression e ++ us) (λ e. e)
     (λ t rest is. reads_value t (first rest) ws (ap (begins_with_word (codes "dot")) (sym is) ∙ first_is_no_word (codes "dot") e us refl g)) c

@@ -64,7 +64,7 @@ is_size n (x ∷ xs) a h = by_first (x == n) (eqb-true x n) h (is_size n xs a.1)
 -- ---- declarations
 
 -- what is known in the declarations
-abbrev declaring : List (List ℕ × Bool) → ℕ → ℕ → ℕ → ℕ → List Wanted → Known
+abbrev pub declaring : List (List ℕ × Bool) → ℕ → ℕ → ℕ → ℕ → List Wanted → Known
 declaring names size values words brackets ws =
     record { wanted = ws; declared = names; size = size; values = values; words = words; variables = []; loops = []; brackets = brackets; begun = 0 }
 
@@ -154,14 +154,14 @@ declarations_walked (d ∷ ds) names size values words ws us g c =
 
 -- ---- kernels
 
-declares_nothing : (t : Token) (next : Option Token) (ws : List Wanted) → begins_declaration (Some t) ≡ false → read (wanted.Declarations ∷ ws) t next ≡ read ws t next
+pub declares_nothing : (t : Token) (next : Option Token) (ws : List Wanted) → begins_declaration (Some t) ≡ false → read (wanted.Declarations ∷ ws) t next ≡ read ws t next
 declares_nothing t next ws h =
     let parts = or_parts (is_word (codes "table") t) (is_word (codes "array") t) h
     in let a = parts.0
     in let b = parts.1
     in rw (a, b) refl
 
-names_are : (ds : List Declaration) → map (λ (p : List ℕ × Bool). p.0) (map entry ds) ≡ names_in ds
+pub names_are : (ds : List Declaration) → map (λ (p : List ℕ × Bool). p.0) (map entry ds) ≡ names_in ds
 names_are [] = refl
 names_are (table x n ns ∷ ds) = ap (λ xs. x ∷ xs) (names_are ds)
 names_are (array x n ∷ ds) = ap (λ xs. x ∷ xs) (names_are ds)
@@ -173,7 +173,7 @@ kernel_sound k g c =
     in let gs = and_parts (list_all is_declaration ds) (are_statements s) g
     in let declared = declarations_walked ds [] 0 0 0 (wanted.Statements ∷ []) (statements s) gs.0 c
     in let known = declaring (map entry ds) declared.1.0 declared.1.1 (0 + words_in ds) 0 []
-    in let start = alike known (wanted.Declarations ∷ wanted.Statements ∷ []) (wanted.Statements ∷ []) (statements s) (λ t rest is. declares_nothing t (first rest) (wanted.Statements ∷ []) (ap (λ ts. begins_declaration (first ts)) (sym is) ∙ statements_declare_nothing s gs.1)) declared.1.2
+    in let start = alike known (wanted.Declarations ∷ wanted.Statements ∷ []) (wanted.Statements ∷ []) (statements s) (λ e. e) (λ t rest is. declares_nothing t (first rest) (wanted.Statements ∷ []) (ap (λ ts. begins_declaration (first ts)) (sym is) ∙ statements_declare_nothing s gs.1)) declared.1.2
     in let walked = statements_walked known ds [] [] s 0 0 [] [] refl gs.1 (omega arith) (subst (λ ts. Clean ts (at known [] [] 0 0 (wanted.Statements ∷ []))) (sym (append-nil (statements s))) start)
     in let limits = at_end (at known (behind_statements [] s) [] 0 (0 + parts_of s) (wanted.Statements ∷ [])) walked.2
     in let words : 0 + words_in ds ≤ 32768 = limits.words

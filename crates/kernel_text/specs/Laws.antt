@@ -16,3 +16,7 @@ pub record OneTree : Type 0 where
 -- A tree that a text without a fault spells is sound.
 pub record TreesAreSound : Type 0 where
   pub sound : (text : List ℕ) (k : Kernel) → first_fault text ≡ None → Spells text k → IsSound k
+
+-- A text that spells a sound tree has no fault.
+pub record SoundTreesHaveNoFault : Type 0 where
+  pub faultless : (text : List ℕ) (k : Kernel) → Spells text k → IsSound k → first_fault text ≡ None

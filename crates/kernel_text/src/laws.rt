@@ -1,6 +1,6 @@
 //! The laws of texts and their trees, each the contract of a function with an empty body.
 
-ghost use Rattle.kernel_text.specs.Laws.{OneTree, SomeTree, TreesAreSound};
+ghost use Rattle.kernel_text.specs.Laws.{OneTree, SomeTree, SoundTreesHaveNoFault, TreesAreSound};
 
 /// A text without a fault spells a tree.
 pub fn some_tree()
@@ -16,4 +16,9 @@ pub fn one_tree()
 /// read; each name is used as what it is; and sizes, words, variables, depths, brackets and parts keep their limits.
 pub fn trees_are_sound()
     ensures { TreesAreSound }
+{}
+
+/// A text that spells a sound tree has no fault.
+pub fn sound_trees_have_no_fault()
+    ensures { SoundTreesHaveNoFault }
 {}
