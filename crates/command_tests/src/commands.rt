@@ -37,7 +37,7 @@ pub(crate) fn serve_by(
             }
         }
     }
-    let mut files = MemFiles::make(alloc, program, machine, trace, most, &[read_fails])?;
+    let mut files = MemFiles::make(alloc, program, machine, trace, b"", most, &[read_fails])?;
     let mut sink = MemSink::make(alloc, 1_048_576, most, &[write_fails])?;
     let result = plain(alloc, words.as_slice(), &mut files, &mut sink);
     let mut line = MemSink::make(alloc, 100, 100, &[])?;

@@ -28,6 +28,3 @@ mod trials;
 pub use faults::{KernelFault, KernelKind};
 pub use parsing::parse;
 pub use tree::{Decl, Decls, Expr, KernelTree, Operator, Stmt, Stmts, Words};
-
-#[cfg(test)]
-mod tests;

@@ -23,5 +23,3 @@ pub use faults::{AsmFault, AsmKind};
 pub use printing::print;
 
 pub mod evidence;
-#[cfg(test)]
-mod tests;

@@ -226,6 +226,3 @@ pub fn print(alloc: Global, program: &Program) -> Result<Text, OutOfMemory>
     add_program(&mut text, program, places.as_slice())?;
     Text::make(alloc, text.as_str())
 }
-
-#[cfg(test)]
-mod tests;

@@ -60,6 +60,7 @@ abbrev pub which_word : Which → List ℕ
 which_word which.Program = codes "program"
 which_word which.Machine = codes "machine"
 which_word which.Trace = codes "trace"
+which_word which.Kernel = codes "kernel"
 
 -- a kind of fault of loading, with an address or a core
 abbrev pub load_line : List ℕ → ℕ → List ℕ

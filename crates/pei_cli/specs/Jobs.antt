@@ -83,4 +83,4 @@ threaded_of words = threaded_by (command_of words)
 abbrev pub threaded_file_of : ThreadedJob → Which → Option (List ℕ)
 threaded_file_of job which.Program = Some job.program
 threaded_file_of job which.Machine = file_of_machine job.machine
-threaded_file_of job which.Trace = None
+threaded_file_of job _ = None

@@ -44,6 +44,7 @@ abbrev pub most_bytes : Which → ℕ
 most_bytes which.Program = 1048576
 most_bytes which.Machine = 1048576
 most_bytes which.Trace = 134217728
+most_bytes which.Kernel = 1048576
 
 -- The file of this name was opened and read: these bytes are what it holds, where that is told, as many were taken, and
 -- they are no more than a file may have.

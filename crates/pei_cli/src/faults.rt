@@ -243,5 +243,6 @@ fn which_word(which: Which) -> &'static [u8]
         Which::Program => b"program",
         Which::Machine => b"machine",
         Which::Trace => b"trace",
+        Which::Kernel => b"kernel",
     }
 }

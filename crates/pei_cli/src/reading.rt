@@ -23,7 +23,7 @@ fn most_bytes(which: Which) -> u32
     ensures { result ≡ most_bytes which }
 {
     match which {
-        Which::Program | Which::Machine => 1_048_576,
+        Which::Program | Which::Machine | Which::Kernel => 1_048_576,
         Which::Trace => 134_217_728,
     }
 }

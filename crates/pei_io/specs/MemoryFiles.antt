@@ -1,4 +1,4 @@
--- Three files in memory.
+-- Four files in memory.
 use Rattle.std.specs.Prelude.{◌≡◌, ℕ, List, Option, Some, None}
 use Rattle.std.proofs.Common.{ap}
 use Rattle.pei_io.specs.declared.files.Which.{Which}
@@ -6,11 +6,12 @@ use Rattle.pei_io.specs.declared.files.Which.TheVariants as which
 use Rattle.pei_io.specs.declared.mem_files.MemFiles.{MemFiles}
 use Rattle.pei_io.specs.Memory.{MemoryFile, left_of, taken_of, taken_if}
 
--- one of the three
+-- one of the four
 abbrev pub file_at : MemFiles → Which → MemoryFile
 file_at files which.Program = files.program
 file_at files which.Machine = files.machine
 file_at files which.Trace = files.trace
+file_at files which.Kernel = files.kernel
 
 abbrev pub held_in : MemFiles → Which → List ℕ → Option (List ℕ)
 held_in files w name = Some (file_at files w).content

@@ -12,6 +12,7 @@ abbrev pub tally_at : Tallies → Which → Tally
 tally_at t which.Program = t.program
 tally_at t which.Machine = t.machine
 tally_at t which.Trace = t.trace
+tally_at t which.Kernel = t.kernel
 
 -- what a real file holds, and what is left of it, is not told
 abbrev pub none_held : Tallies → Which → List ℕ → Option (List ℕ)
@@ -33,11 +34,12 @@ faults_told t w = (tally_at t w).faults
 pub nothing_taken_told : (t : Tallies) (w : Which) → name_told t w ≡ None → taken_told t w ≡ 0
 nothing_taken_told t w e = ap (λ name. taken_if name (tally_at t w).taken) e
 
--- that of one of three files
-abbrev pub of_file : {A : Type 0} → A → A → A → Which → A
-of_file program machine trace which.Program = program
-of_file program machine trace which.Machine = machine
-of_file program machine trace which.Trace = trace
+-- that of one of four files
+abbrev pub of_file : {A : Type 0} → A → A → A → A → Which → A
+of_file program machine trace kernel which.Program = program
+of_file program machine trace kernel which.Machine = machine
+of_file program machine trace kernel which.Trace = trace
+of_file program machine trace kernel which.Kernel = kernel
 
 -- what an opened file of std has left, where it tells that; nothing where opening failed
 abbrev pub std_left : {A : Type 0} → (A → Option (List ℕ)) → Option A → Option (List ℕ)

@@ -18,6 +18,7 @@ pub struct DiskFiles<'a, R: rt::Files> {
     program: Option<R::File>,
     machine: Option<R::File>,
     trace: Option<R::File>,
+    kernel: Option<R::File>,
     tallies: Tallies,
     reads: u64,
 }
@@ -37,6 +38,7 @@ impl<'a, R: rt::Files> DiskFiles<'a, R> {
             program: None,
             machine: None,
             trace: None,
+            kernel: None,
             tallies: Tallies::new(),
             reads: 0,
         }
@@ -76,7 +78,7 @@ impl<'a, R: rt::Files> Files for DiskFiles<'a, R> {
         requires { name_told self.old.tallies which ≡ None }
         ensures named { name_told self.new.tallies which ≡ Some file }
         ensures ok { OnOk result (none_left self.new.tallies which ≡ none_held self.old.tallies which file) }
-        ensures opened { OnOk result (IsSome (of_file self.new.program self.new.machine self.new.trace which)) }
+        ensures opened { OnOk result (IsSome (of_file self.new.program self.new.machine self.new.trace self.new.kernel which)) }
         ensures failed { OnErr result (Rose (faults_told self.old.tallies which) (faults_told self.new.tallies which)) }
         ensures faultless { OnOk result (faults_told self.new.tallies which ≡ faults_told self.old.tallies which) }
         ensures taken { taken_told self.new.tallies which ≡ taken_told self.old.tallies which }
@@ -94,13 +96,14 @@ impl<'a, R: rt::Files> Files for DiskFiles<'a, R> {
             Which::Program => self.program = Some(opened),
             Which::Machine => self.machine = Some(opened),
             Which::Trace => self.trace = Some(opened),
+            Which::Kernel => self.kernel = Some(opened),
         }
         Ok(())
     }
 
     fn read(&mut self, which: Which, buf: &mut [u8]) -> Result<usize, Failed>
         ensures within { IfOk result (λ n. n ≤ length buf.old) }
-        ensures passed { name_told self.old.tallies which ≢ None → ReadConsumes (std_left R.File.remaining (of_file self.old.program self.old.machine self.old.trace which)) (std_left R.File.remaining (of_file self.new.program self.new.machine self.new.trace which)) result buf.new }
+        ensures passed { name_told self.old.tallies which ≢ None → ReadConsumes (std_left R.File.remaining (of_file self.old.program self.old.machine self.old.trace self.old.kernel which)) (std_left R.File.remaining (of_file self.new.program self.new.machine self.new.trace self.new.kernel which)) result buf.new }
         ensures bytes { IfOk result (λ n. Takes n buf.new (none_left self.old.tallies which) (none_left self.new.tallies which)) }
         ensures counted { IfOk result (λ n. taken_told self.new.tallies which ≡ counted (taken_told self.old.tallies which + n)) }
         ensures unopened { name_told self.old.tallies which ≡ None → IfOk result (λ n. n ≡ 0) }
@@ -121,6 +124,7 @@ impl<'a, R: rt::Files> Files for DiskFiles<'a, R> {
             Which::Program => read_some(&mut self.program, buf),
             Which::Machine => read_some(&mut self.machine, buf),
             Which::Trace => read_some(&mut self.trace, buf),
+            Which::Kernel => read_some(&mut self.kernel, buf),
         };
         let Ok(count) = count else {
             self.tallies.fail(which);

@@ -16,9 +16,10 @@ pub enum Which {
     Program,
     Machine,
     Trace,
+    Kernel,
 }
 
-/// Up to three files, each opened once and read from its front.
+/// Up to four files, each opened once and read from its front.
 pub trait Files {
     /// The whole bytes of a file of this name, where the object tells them. No call changes it.
     ghost held: { Self → Which → List ℕ → Option (List ℕ) };

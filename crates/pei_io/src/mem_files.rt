@@ -9,12 +9,13 @@ use crate::text::Text;
 use pei_types::OutOfMemory;
 use std::alloc::Global;
 
-/// Three files in memory, which have their bytes under every name. Reads fail where it is asked.
+/// Four files in memory, which have their bytes under every name. Reads fail where it is asked.
 #[derive(Drop)]
 pub struct MemFiles {
     program: MemFile,
     machine: MemFile,
     trace: MemFile,
+    kernel: MemFile,
     most: u32,
     fails: Vec<u32>,
     reads: u64,
@@ -31,11 +32,12 @@ impl MemFiles {
         program: &[u8],
         machine: &[u8],
         trace: &[u8],
+        kernel: &[u8],
         most: u32,
         fails: &[u32],
     ) -> Result<MemFiles, OutOfMemory>
         requires { 1 ≤ most }
-        ensures { IfOk result (λ f. (f.program ≡ unopened program.now) × (f.machine ≡ unopened machine.now) × (f.trace ≡ unopened trace.now) × (f.most ≡ most) × (f.fails.items ≡ fails.now) × (f.reads ≡ 0)) }
+        ensures { IfOk result (λ f. (f.program ≡ unopened program.now) × (f.machine ≡ unopened machine.now) × (f.trace ≡ unopened trace.now) × (f.kernel ≡ unopened kernel.now) × (f.most ≡ most) × (f.fails.items ≡ fails.now) × (f.reads ≡ 0)) }
     {
         let Ok(fails) = fails.to_vec(alloc) else {
             return Err(OutOfMemory);
@@ -44,6 +46,7 @@ impl MemFiles {
             program: MemFile::make(alloc, program)?,
             machine: MemFile::make(alloc, machine)?,
             trace: MemFile::make(alloc, trace)?,
+            kernel: MemFile::make(alloc, kernel)?,
             most,
             fails,
             reads: 0,
@@ -55,7 +58,7 @@ impl MemFiles {
         ensures fails { IsTrue result ↔ Contains self.old.fails.items (counted (self.old.reads + 1)) }
         ensures number { self.new.reads ≡ counted (self.old.reads + 1) }
         ensures kept { (self.new.fails.items ≡ self.old.fails.items) × (self.new.most ≡ self.old.most) }
-        ensures files { (self.new.program ≡ self.old.program) × (self.new.machine ≡ self.old.machine) × (self.new.trace ≡ self.old.trace) }
+        ensures files { (self.new.program ≡ self.old.program) × (self.new.machine ≡ self.old.machine) × (self.new.trace ≡ self.old.trace) × (self.new.kernel ≡ self.old.kernel) }
     {
         self.reads = self.reads.saturating_add(1);
         let number = self.reads;
@@ -96,6 +99,7 @@ impl Files for MemFiles {
             Which::Program => self.program.open(file),
             Which::Machine => self.machine.open(file),
             Which::Trace => self.trace.open(file),
+            Which::Kernel => self.kernel.open(file),
         }
         Ok(())
     }
@@ -126,6 +130,7 @@ impl Files for MemFiles {
             Which::Program => self.program.read_or_fail(fails, most, buf),
             Which::Machine => self.machine.read_or_fail(fails, most, buf),
             Which::Trace => self.trace.read_or_fail(fails, most, buf),
+            Which::Kernel => self.kernel.read_or_fail(fails, most, buf),
         }
     }
 

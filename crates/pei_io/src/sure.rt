@@ -9,7 +9,7 @@ use crate::text::Text;
 use pei_types::OutOfMemory;
 use std::alloc::Global;
 
-/// Three files in memory, which have their bytes under every name and never fail.
+/// Four files in memory, which have their bytes under every name and never fail.
 #[derive(Drop)]
 pub struct SureFiles {
     files: MemFiles,
@@ -25,10 +25,11 @@ impl SureFiles {
         program: &[u8],
         machine: &[u8],
         trace: &[u8],
+        kernel: &[u8],
     ) -> Result<SureFiles, OutOfMemory>
-        ensures { IfOk result (λ f. (f.files.program ≡ unopened program.now) × (f.files.machine ≡ unopened machine.now) × (f.files.trace ≡ unopened trace.now)) }
+        ensures { IfOk result (λ f. (f.files.program ≡ unopened program.now) × (f.files.machine ≡ unopened machine.now) × (f.files.trace ≡ unopened trace.now) × (f.files.kernel ≡ unopened kernel.now)) }
     {
-        let files = MemFiles::make(alloc, program, machine, trace, u32::MAX, &[])?;
+        let files = MemFiles::make(alloc, program, machine, trace, kernel, u32::MAX, &[])?;
         Ok(SureFiles { files })
     }
 }

@@ -53,12 +53,13 @@ impl Tally {
     }
 }
 
-/// The tallies of the three files.
+/// The tallies of the four files.
 #[derive(Drop)]
 pub(crate) struct Tallies {
     program: Tally,
     machine: Tally,
     trace: Tally,
+    kernel: Tally,
 }
 
 impl Tallies {
@@ -71,6 +72,7 @@ impl Tallies {
             program: Tally::new(),
             machine: Tally::new(),
             trace: Tally::new(),
+            kernel: Tally::new(),
         }
     }
 
@@ -82,6 +84,7 @@ impl Tallies {
             Which::Program => self.program.name.is_some(),
             Which::Machine => self.machine.name.is_some(),
             Which::Trace => self.trace.name.is_some(),
+            Which::Kernel => self.kernel.name.is_some(),
         }
     }
 
@@ -97,6 +100,7 @@ impl Tallies {
             Which::Program => self.program.open(name),
             Which::Machine => self.machine.open(name),
             Which::Trace => self.trace.open(name),
+            Which::Kernel => self.kernel.open(name),
         }
     }
 
@@ -112,6 +116,7 @@ impl Tallies {
             Which::Program => self.program.take(count),
             Which::Machine => self.machine.take(count),
             Which::Trace => self.trace.take(count),
+            Which::Kernel => self.kernel.take(count),
         }
     }
 
@@ -127,6 +132,7 @@ impl Tallies {
             Which::Program => self.program.fail(),
             Which::Machine => self.machine.fail(),
             Which::Trace => self.trace.fail(),
+            Which::Kernel => self.kernel.fail(),
         }
     }
 }

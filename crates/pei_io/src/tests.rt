@@ -19,7 +19,7 @@ fn program_read(
 ) -> Result<Result<Bytes, ReadEnd>, OutOfMemory>
     requires { 1 ≤ most }
 {
-    let mut files = MemFiles::make(alloc, program, b"machine", b"", most, fails)?;
+    let mut files = MemFiles::make(alloc, program, b"machine", b"", b"", most, fails)?;
     Ok(read_limited(alloc, &mut files, Which::Program, "a", limit))
 }
 
@@ -96,13 +96,15 @@ fn texts_give_back_what_went_in(rt: HostRuntime) -> Result<(), Fail> {
 
 #[test]
 fn sure_objects_never_fail(rt: HostRuntime) -> Result<(), Fail> {
-    let mut files = SureFiles::make(rt.alloc(), b"program", b"", TEN)?;
+    let mut files = SureFiles::make(rt.alloc(), b"program", b"", TEN, b"kernel")?;
     let program = read_limited(rt.alloc(), &mut files, Which::Program, "p", 100)?;
     assert_eq!(rt; program.as_slice(), b"program".as_slice());
     let machine = read_limited(rt.alloc(), &mut files, Which::Machine, "", 100)?;
     assert_eq!(rt; machine.as_slice(), b"".as_slice());
     let trace = read_limited(rt.alloc(), &mut files, Which::Trace, "t", 10)?;
     assert_eq!(rt; trace.as_slice(), TEN);
+    let kernel = read_limited(rt.alloc(), &mut files, Which::Kernel, "k", 6)?;
+    assert_eq!(rt; kernel.as_slice(), b"kernel".as_slice());
     let mut sink = SureSink::make();
     assert_eq!(rt; sink.write(TEN), Ok(10));
     assert_eq!(rt; write_all(&mut sink, TEN), Ok(()));

@@ -36,7 +36,7 @@ fn served<R: Threads + Wait + Sync>(
     program: &[u8],
     room: u32,
 ) -> Result<Ended, OutOfMemory> {
-    let mut files = MemFiles::make(alloc, program, b"", b"", 5000, &[])?;
+    let mut files = MemFiles::make(alloc, program, b"", b"", b"", 5000, &[])?;
     let mut output = MemSink::make(alloc, room, 5000, &[])?;
     let mut faults = MemSink::make(alloc, 100, 5000, &[])?;
     let status = command(rt, alloc, args, &mut files, &mut output, &mut faults);

@@ -44,7 +44,7 @@ pub(crate) fn run<R: Threads + Wait + Sync, G: Gate>(
     gate: &G,
 ) -> Result<Ended, OutOfMemory> {
     let words = words(alloc, command)?;
-    let mut files = MemFiles::make(alloc, program, machine, b"", 5000, &[])?;
+    let mut files = MemFiles::make(alloc, program, machine, b"", b"", 5000, &[])?;
     let mut sink = MemSink::make(alloc, 4_000_000, 5000, &[])?;
     let result = threaded(rt, alloc, words.as_slice(), &mut files, &mut sink, gate);
     Ok(Ended { result, sink })
@@ -58,7 +58,7 @@ pub(crate) fn written(
     machine: &[u8],
 ) -> Result<MemSink, OutOfMemory> {
     let words = words(alloc, command)?;
-    let mut files = MemFiles::make(alloc, program, machine, b"", 5000, &[])?;
+    let mut files = MemFiles::make(alloc, program, machine, b"", b"", 5000, &[])?;
     let mut sink = MemSink::make(alloc, 4_000_000, 5000, &[])?;
     let _ = plain(alloc, words.as_slice(), &mut files, &mut sink);
     Ok(sink)
@@ -72,7 +72,7 @@ pub(crate) fn verdict(
     trace: &[u8],
 ) -> Result<Option<Verdict>, OutOfMemory> {
     let words = words(alloc, "check p m t")?;
-    let mut files = MemFiles::make(alloc, program, machine, trace, 65536, &[])?;
+    let mut files = MemFiles::make(alloc, program, machine, trace, b"", 65536, &[])?;
     let mut sink = MemSink::make(alloc, 100, 100, &[])?;
     match plain(alloc, words.as_slice(), &mut files, &mut sink) {
         Ok(PlainEnd::Checked { verdict, .. }) => Ok(Some(verdict)),

@@ -44,7 +44,7 @@ fn refused<R: Threads + Wait + Sync>(
     write_fails: u32,
 ) -> Result<(u8, MemSink), OutOfMemory> {
     let words = words(alloc, command)?;
-    let mut files = MemFiles::make(alloc, program, machine, b"", 5000, &[read_fails])?;
+    let mut files = MemFiles::make(alloc, program, machine, b"", b"", 5000, &[read_fails])?;
     let mut sink = MemSink::make(alloc, 4096, 5000, &[write_fails])?;
     let result = threaded(
         rt,

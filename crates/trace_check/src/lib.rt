@@ -19,8 +19,6 @@ mod next_step;
 mod pei_effects;
 mod same_events;
 mod state_clauses;
-#[cfg(test)]
-mod tests;
 mod verdicts;
 
 pub use checking::check;

@@ -14,3 +14,11 @@ read_limited-requires-3 g c =
     in let another : which.Trace ≢ which.Machine = search rules
     in let made : c.in_ok-files.files.files.trace.name ≡ None = search rules
     in c.read_limited-2.ensures.others.same_name which.Trace another ∙ c.read_limited.ensures.others.same_name which.Trace other ∙ made
+
+pub read_limited-requires-4 : goal.read_limited-requires-4
+read_limited-requires-4 g c =
+    let first : which.Kernel ≢ which.Program = search rules
+    in let second : which.Kernel ≢ which.Machine = search rules
+    in let third : which.Kernel ≢ which.Trace = search rules
+    in let made : c.in_ok-files.files.files.kernel.name ≡ None = search rules
+    in c.read_limited-3.ensures.others.same_name which.Kernel third ∙ c.read_limited-2.ensures.others.same_name which.Kernel second ∙ c.read_limited.ensures.others.same_name which.Kernel first ∙ made

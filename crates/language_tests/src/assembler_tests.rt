@@ -2,7 +2,7 @@
 
 ghost use Rattle.std.specs.Prelude.{◌<◌, length};
 
-use crate::{AsmFault, AsmKind, assemble};
+use pei_asm::{AsmFault, AsmKind, assemble};
 use pei_types::{Ask, CoreId, Instr, Program};
 use std::test::Fail;
 

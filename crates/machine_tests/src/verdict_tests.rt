@@ -2,11 +2,11 @@
 
 ghost use Rattle.std.specs.Prelude.{◌≡◌};
 
-use crate::{Verdict, check};
 use journal::{Journal, read_trace};
 use pei_types::{Clause, CoreId, Image, Instr, MachineSpec, Policy3, Program};
 use std::alloc::Global;
 use std::test::Fail;
+use trace_check::{Verdict, check};
 
 /// The built-in machine of one core.
 #[tactic(auto, unfolding(pei_types::specs::Limits::log_two))]

@@ -2,7 +2,7 @@
 
 ghost use Rattle.std.specs.Prelude.{◌≡◌};
 
-use crate::{Fabric, Turn};
+use fabric::{Fabric, Turn};
 use pei_types::{CoreId, Image, Lane, MachineSpec, Policy3, StallCause};
 use std::test::Fail;
 

@@ -8,12 +8,12 @@ ghost use Rattle.pei_types.specs.Program.{HasRegisters};
 ghost use Rattle.inflight.specs.OnTheWay.{IsLaneOf};
 ghost use Rattle.sched_run.specs.Choice.{HasActorsOf};
 
-use crate::{Actors, Policy, SchedEnd, run_schedule};
 use fabric::{Fabric, Turn};
 use pei_types::{
     Actor, BlockNo, Call, CoreId, EndKind, Event, EventKind, Image, Instr, Lane, MachineSpec, Op,
     Operands, OutOfMemory, PeiId, Place, Policy3, Program, Reply, StallCause,
 };
+use sched_run::{Actors, Policy, SchedEnd, run_schedule};
 use std::alloc::Global;
 use std::test::Fail;
 

@@ -1,8 +1,11 @@
+//! Canonical texts.
+
 ghost use Rattle.std.specs.Prelude.{◌<◌, length};
 
-use super::*;
-use crate::assemble;
-use crate::evidence::spelled_programs_are_printable;
+use pei_asm::evidence::spelled_programs_are_printable;
+use pei_asm::{assemble, print};
+use pei_io::Text;
+use std::alloc::Global;
 use std::test::Fail;
 
 const WHOLE: &[u8] =

@@ -2,9 +2,7 @@
 
 ghost use Rattle.std.specs.Prelude.{◌<◌, length};
 
-use crate::faults::{KernelFault, KernelKind};
-use crate::parsing::parse;
-use crate::tree::{Expr, Operator, Stmt};
+use kernel_text::{Expr, KernelFault, KernelKind, Operator, Stmt, parse};
 use std::alloc::{AllocError, Global};
 use std::test::Fail;
 
