@@ -1,0 +1,2 @@
+-- Kernels, with what they mean, and with their code.
+pub mod Meant
