@@ -13,6 +13,8 @@ mod check_tests;
 #[cfg(test)]
 mod commands;
 #[cfg(test)]
+mod kernel_tests;
+#[cfg(test)]
 mod litmus_tests;
 #[cfg(test)]
 mod narrow_tests;

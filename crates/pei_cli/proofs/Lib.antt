@@ -6,5 +6,6 @@ pub mod WritingOn
 pub mod FileUses
 pub mod Served
 pub mod RunsServed
+mod KernelsServed
 pub mod ThreadsServed
 mod ChecksServed

@@ -1,5 +1,5 @@
 -- A scheduled run, by the reading of its program and of its machine.
-use Rattle.std.proofs.Common.{◌≡◌, inl, inr, ℕ, List, Option, Result, Ok, Err, subst}
+use Rattle.std.proofs.Common.{◌≡◌, inl, inr, ℕ, List, Option, Result, Ok, Err, subst, sym}
 use Rattle.pei_types.specs.declared.machines.MachineSpec.{MachineSpec}
 use Rattle.pei_types.specs.Program.{Listing}
 use Rattle.pei_io.specs.declared.files.Which.{Which}
@@ -32,3 +32,7 @@ machine_refused held left name taken faults job p f old mid new sink result firs
 pub machine_run : {F : Type 0} (held : F → Which → List ℕ → Option (List ℕ)) (left name : F → Which → Option (List ℕ)) (taken faults : F → Which → ℕ) (job : Job) (p : Listing) (m : MachineSpec) (old mid new : F) (sink : SinkUse) (result : Result PlainEnd Fault) → LeavesOthers held left name taken faults which.Program old mid → LeavesOthers held left name taken faults which.Machine mid new → ReadsProgram job.program (file_use held left name taken faults old mid which.Program) (Ok p) → ReadsMachine job.machine (file_use held left name taken faults mid new which.Machine) (Ok m) → RunsJob job p m sink result → Serves (Runs job) (file_use held left name taken faults old new) sink result
 machine_run held left name taken faults job p m old mid new sink result first second program machine ran =
     inr (p, program_read held left name taken faults job.program p old mid new second program, inr (m, machine_read held left name taken faults job.machine (Ok m) old mid new first machine, ran))
+
+-- a run that failed
+pub failed : (job : Job) (p : Listing) (m : MachineSpec) (sink : SinkUse) (result : Result PlainEnd Fault) (f : Fault) → result ≡ Err f → RunsJob job p m sink (Err f) → RunsJob job p m sink result
+failed job p m sink result f is ran = subst (λ (r : Result PlainEnd Fault). RunsJob job p m sink r) (sym is) ran

@@ -38,13 +38,19 @@ pub any_failure : (text : List ℕ) (before now : Option (List ℕ)) (faults fau
 any_failure text before now faults faults_now failed (Ok done) h written = absurd (cc h)
 any_failure text before now faults faults_now failed (Err other) h written = written
 
--- the line of a bad program, whose place is one word
-pub placed_line : (a b k : List ℕ) → codes "program bad " ++ (a ++ (codes ":" ++ (b ++ (codes " " ++ (k ++ codes "\n"))))) ≡ line (codes "program" ∷ codes "bad" ∷ (a ++ codes ":" ++ b) ∷ k ∷ [])
-placed_line a b k =
-    ap (λ xs. codes "program bad " ++ xs)
-    (sym (append_assoc (a ++ codes ":" ++ b) (codes " " ++ k) (codes "\n")
+-- a place and a kind, where the place is one word
+placed : (a b k : List ℕ) → a ++ (codes ":" ++ (b ++ (codes " " ++ (k ++ codes "\n")))) ≡ ((a ++ codes ":" ++ b) ++ (codes " " ++ k)) ++ codes "\n"
+placed a b k =
+    sym (append_assoc (a ++ codes ":" ++ b) (codes " " ++ k) (codes "\n")
     ∙ append_assoc (a ++ codes ":") b (codes " " ++ (k ++ codes "\n"))
-    ∙ append_assoc a (codes ":") (b ++ (codes " " ++ (k ++ codes "\n")))))
+    ∙ append_assoc a (codes ":") (b ++ (codes " " ++ (k ++ codes "\n"))))
+
+-- the line of a bad program, and that of a bad kernel
+pub placed_line : (a b k : List ℕ) → codes "program bad " ++ (a ++ (codes ":" ++ (b ++ (codes " " ++ (k ++ codes "\n"))))) ≡ line (codes "program" ∷ codes "bad" ∷ (a ++ codes ":" ++ b) ∷ k ∷ [])
+placed_line a b k = ap (λ xs. codes "program bad " ++ xs) (placed a b k)
+
+pub kernel_line : (a b k : List ℕ) → codes "kernel bad " ++ (a ++ (codes ":" ++ (b ++ (codes " " ++ (k ++ codes "\n"))))) ≡ line (codes "kernel" ∷ codes "bad" ∷ (a ++ codes ":" ++ b) ∷ k ∷ [])
+kernel_line a b k = ap (λ xs. codes "kernel bad " ++ xs) (placed a b k)
 
 -- the line of a fault of a machine's file that names a key
 pub line_with_key : (kind key : List ℕ) → codes "machine bad " ++ (kind ++ (codes " " ++ (key ++ codes "\n"))) ≡ line (codes "machine" ∷ codes "bad" ∷ kind ∷ key ∷ [])

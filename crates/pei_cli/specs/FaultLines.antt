@@ -3,6 +3,9 @@ use Rattle.std.specs.Prelude.{ℕ, List, [], ◌∷◌, ◌++◌, Option, Some, 
 use Rattle.pei_asm.specs.declared.faults.AsmFault.{AsmFault}
 use Rattle.pei_asm.specs.declared.faults.AsmKind.{AsmKind}
 use Rattle.pei_asm.specs.declared.faults.AsmKind.TheVariants as kind
+use Rattle.kernel_text.specs.declared.faults.KernelFault.{KernelFault}
+use Rattle.kernel_text.specs.declared.faults.KernelKind.{KernelKind}
+use Rattle.kernel_text.specs.declared.faults.KernelKind.TheVariants as kernel
 use Rattle.pei_io.specs.declared.files.Which.{Which}
 use Rattle.pei_io.specs.declared.files.Which.TheVariants as which
 use Rattle.pei_loader.specs.declared.faults.LoadFault.{LoadFault}
@@ -27,6 +30,14 @@ fault_of_kind _ f = fault.ProgramBad f
 abbrev pub fault_of_text : AsmFault → Fault
 fault_of_text f = fault_of_kind f.kind f
 
+-- the fault of a command whose kernel's text has a fault: want of memory is told as such
+abbrev pub fault_of_kernel_kind : KernelKind → KernelFault → Fault
+fault_of_kernel_kind kernel.OutOfMemory f = fault.OutOfMemory
+fault_of_kernel_kind _ f = fault.KernelBad f
+
+abbrev pub fault_of_kernel : KernelFault → Fault
+fault_of_kernel f = fault_of_kernel_kind f.kind f
+
 -- the fault of a command whose machine's file has a fault: want of memory is told as such
 abbrev pub fault_of_machine : MachineFault → Fault
 fault_of_machine machine.OutOfMemory = fault.OutOfMemory
@@ -40,6 +51,7 @@ status_of_fault (fault.MachineBad f) = 4
 status_of_fault (fault.TraceBad line) = 11
 status_of_fault (fault.InputTooLong w) = 13
 status_of_fault (fault.ReadFault w) = 8
+status_of_fault (fault.KernelBad f) = 15
 status_of_fault fault.WriteFault = 9
 status_of_fault fault.OutOfMemory = 10
 
@@ -55,6 +67,23 @@ asm_word kind.TooManyInstructions = codes "TooManyInstructions"
 asm_word kind.DoubleEntry = codes "DoubleEntry"
 asm_word kind.UnknownLabel = codes "UnknownLabel"
 asm_word kind.OutOfMemory = codes "OutOfMemory"
+
+abbrev pub kernel_word : KernelKind → List ℕ
+kernel_word kernel.BadChar = codes "BadChar"
+kernel_word kernel.NumberTooLarge = codes "NumberTooLarge"
+kernel_word kernel.Syntax = codes "Syntax"
+kernel_word kernel.TooNested = codes "TooNested"
+kernel_word kernel.DoubleName = codes "DoubleName"
+kernel_word kernel.Unknown = codes "Unknown"
+kernel_word kernel.WrongKind = codes "WrongKind"
+kernel_word kernel.LoopVariable = codes "LoopVariable"
+kernel_word kernel.TooManyVariables = codes "TooManyVariables"
+kernel_word kernel.BadSize = codes "BadSize"
+kernel_word kernel.TooManyValues = codes "TooManyValues"
+kernel_word kernel.TooManyWords = codes "TooManyWords"
+kernel_word kernel.TooDeep = codes "TooDeep"
+kernel_word kernel.TooLong = codes "TooLong"
+kernel_word kernel.OutOfMemory = codes "OutOfMemory"
 
 abbrev pub which_word : Which → List ℕ
 which_word which.Program = codes "program"
@@ -102,6 +131,8 @@ abbrev pub fault_line : Fault → List ℕ
 fault_line fault.Usage = codes "usage: peisim asm or sched or run or check or gen\n"
 fault_line (fault.ProgramBad f) =
     line (codes "program" ∷ codes "bad" ∷ (decimal f.line ++ codes ":" ++ decimal f.column) ∷ asm_word f.kind ∷ [])
+fault_line (fault.KernelBad f) =
+    line (codes "kernel" ∷ codes "bad" ∷ (decimal f.line ++ codes ":" ++ decimal f.column) ∷ kernel_word f.kind ∷ [])
 fault_line (fault.LoadBad f) = load_fault_line f
 fault_line (fault.MachineBad f) = machine_line (machine_kind f) (told_key f)
 fault_line (fault.TraceBad number) = line (codes "trace" ∷ codes "bad" ∷ decimal number ∷ [])

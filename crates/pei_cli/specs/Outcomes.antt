@@ -15,6 +15,12 @@ use Rattle.pei_asm.specs.declared.faults.AsmKind.TheVariants as kind
 use Rattle.pei_asm.specs.Canonical.{canonical}
 use Rattle.pei_asm.specs.Faults.{first_fault}
 use Rattle.pei_asm.specs.Meaning.{Spells}
+use Rattle.kernel_text.specs.declared.faults.KernelKind.TheVariants as kernel_kind
+use Rattle.kernel_text.specs.Faults.{first_fault as first_kernel_fault}
+use Rattle.kernel_text.specs.Grammar.{Spells as SpellsKernel}
+use Rattle.kernel_text.specs.Sound.{IsSound}
+use Rattle.kernel_text.specs.Trees.{Kernel}
+use Rattle.kernel_lang.specs.Programs.{IsCompiled}
 use Rattle.pei_loader.specs.Faults.{IsLoadRefusal}
 use Rattle.pei_loader.specs.declared.faults.LoadFault.{LoadFault}
 use Rattle.pei_loader.specs.declared.faults.LoadFault.TheVariants as load
@@ -29,12 +35,13 @@ use Rattle.trace_check.specs.declared.verdicts.Verdict.{Verdict}
 use Rattle.workload_gen.specs.Generated.{generated}
 use Rattle.pei_cli.specs.Commands.{MachineWord, BuiltIn, FromFile, Output, Report, Trace}
 use Rattle.pei_cli.specs.FaultLines.{fault_of_loading}
-use Rattle.pei_cli.specs.Jobs.{Job, Question, Asked, Runs, Checks, Prints, Generates}
+use Rattle.pei_cli.specs.Jobs.{Job, Question, Asked, Runs, Checks, Prints, Generates, Compiles, RunsKernel}
 use Rattle.pei_cli.specs.VerdictLines.{status_of_verdict, verdict_line}
 use Rattle.pei_cli.specs.Uses.{FileUse, SinkUse, IsUnopened}
 use Rattle.pei_cli.specs.declared.ends.PlainEnd.{PlainEnd}
 use Rattle.pei_cli.specs.declared.ends.PlainEnd.TheVariants as ends
 use Rattle.pei_cli.specs.declared.faults.Fault.{Fault}
+use Rattle.pei_cli.specs.declared.running.Ran.{Ran}
 use Rattle.pei_cli.specs.declared.faults.Fault.TheVariants as fault
 
 -- ---- reading a file
@@ -72,6 +79,16 @@ ReadsProgram file u (Ok p) = (text : List ℕ) × IsRead which.Program u file te
 ReadsProgram file u (Err (fault.ProgramBad f)) =
     (f.kind ≢ kind.OutOfMemory) × (text : List ℕ) × IsRead which.Program u file text × (first_fault text ≡ Some f)
 ReadsProgram file u (Err f) = FailsToRead which.Program file u f
+
+-- ---- reading a kernel
+
+-- The compiled program of the kernel that the file's text spells, or why there is none: the first fault of the text, or that it
+-- was not read.
+abbrev pub ReadsKernel : List ℕ → FileUse → Result Listing Fault → Type 0
+ReadsKernel file u (Ok p) = (text : List ℕ) × IsRead which.Kernel u file text × (k : Kernel) × SpellsKernel text k × IsSound k × IsCompiled k p
+ReadsKernel file u (Err (fault.KernelBad f)) =
+    (f.kind ≢ kernel_kind.OutOfMemory) × (text : List ℕ) × IsRead which.Kernel u file text × (first_kernel_fault text ≡ Some f)
+ReadsKernel file u (Err f) = FailsToRead which.Kernel file u f
 
 -- ---- reading the machine
 
@@ -145,6 +162,18 @@ RunsJob job p m sink (Err (fault.LoadBad f)) = IsFirstLoadFault p m f × (sink.n
 RunsJob job p m sink (Err fault.OutOfMemory) = sink.now ≡ sink.before
 RunsJob job p m sink (Err _) = ⊥
 
+-- what a run came to, as the answer of `sched`
+abbrev pub sched_end : Result Ran Fault → Result PlainEnd Fault
+sched_end (Ok ran) = Ok (ends.Sched ran.status ran.journal ran.cores ran.turns)
+sched_end (Err f) = Err f
+
+-- A run of a kernel's program: the answer has that program, and is otherwise that of a run of any program.
+abbrev pub RunsKernelJob : Job → Listing → MachineSpec → SinkUse → Result PlainEnd Fault → Type 0
+RunsKernelJob job p m sink (Ok (ends.KernelSched status program journal cores turns)) =
+    (program ≡ p) × RunsJob job p m sink (Ok (ends.Sched status journal cores turns))
+RunsKernelJob job p m sink (Ok _) = ⊥
+RunsKernelJob job p m sink (Err f) = RunsJob job p m sink (Err f)
+
 -- ---- checking a trace
 
 -- the verdict on a journal that was answered, its status, and its line
@@ -189,6 +218,17 @@ PrintsProgram p sink (Err fault.WriteFault) =
 PrintsProgram p sink (Err fault.OutOfMemory) = sink.now ≡ sink.before
 PrintsProgram p sink _ = ⊥
 
+-- a status, as the answer of `asm`
+abbrev pub text_end : Result ℕ Fault → Result PlainEnd Fault
+text_end (Ok status) = Ok (ends.Text status)
+text_end (Err f) = Err f
+
+-- A kernel's program: the answer has it, and its canonical text was written as that of any program.
+abbrev pub PrintsKernel : Listing → SinkUse → Result PlainEnd Fault → Type 0
+PrintsKernel p sink (Ok (ends.Kernel status program)) = (program ≡ p) × PrintsProgram p sink (Ok (ends.Text status))
+PrintsKernel p sink (Ok _) = ⊥
+PrintsKernel p sink (Err f) = PrintsProgram p sink (Err f)
+
 -- ---- a generated program
 
 -- The generated program of a number was written, or a front of it.
@@ -200,11 +240,11 @@ WritesGenerated n sink _ = ⊥
 
 -- ---- the whole command
 
--- The machine was not read, and nothing was written; or it was, and this is the program's run on it.
-abbrev pub RunsOnMachine : Job → Listing → FileUse → SinkUse → Result PlainEnd Fault → Type 0
-RunsOnMachine job p u sink result =
-    ((f : Fault) × (result ≡ Err f) × ReadsMachine job.machine u (Err f) × (sink.now ≡ sink.before))
-    ⊎ ((m : MachineSpec) × ReadsMachine job.machine u (Ok m) × RunsJob job p m sink result)
+-- The machine was not read, and nothing was written; or it was, and this is what comes behind it.
+abbrev pub OnMachine : (MachineSpec → Type 0) → MachineWord → FileUse → SinkUse → Result PlainEnd Fault → Type 0
+OnMachine behind machine u sink result =
+    ((f : Fault) × (result ≡ Err f) × ReadsMachine machine u (Err f) × (sink.now ≡ sink.before))
+    ⊎ ((m : MachineSpec) × ReadsMachine machine u (Ok m) × behind m)
 
 -- The machine was not read, no trace was opened, and nothing was written; or the machine was read, and this is the check.
 abbrev pub ChecksOnMachine : Question → Listing → (Which → FileUse) → SinkUse → Result PlainEnd Fault → Type 0
@@ -213,12 +253,13 @@ ChecksOnMachine question p uses sink result =
     ⊎ ((m : MachineSpec) × ReadsMachine question.machine (uses which.Machine) (Ok m) × LoadsAndJudges question.trace p m (uses which.Trace) sink result)
 
 -- A run: the program was not read, no file of a machine was opened, and nothing was written; or the program was read, and
--- what comes behind it is the above. A check likewise: no file is opened behind one that was not read. A canonical text: the program was not read, and nothing was written; or it was, and
--- this is its text. Or a generated program.
+-- what comes behind it is its run. A check likewise: no file is opened behind one that was not read. A canonical text: the
+-- program was not read, and nothing was written; or it was, and this is its text. Or a generated program. A kernel's program is
+-- written and run as any other.
 abbrev pub Serves : Asked → (Which → FileUse) → SinkUse → Result PlainEnd Fault → Type 0
 Serves (Runs job) uses sink result =
     ((f : Fault) × (result ≡ Err f) × ReadsProgram job.program (uses which.Program) (Err f) × IsUnopened (uses which.Machine) × (sink.now ≡ sink.before))
-    ⊎ ((p : Listing) × ReadsProgram job.program (uses which.Program) (Ok p) × RunsOnMachine job p (uses which.Machine) sink result)
+    ⊎ ((p : Listing) × ReadsProgram job.program (uses which.Program) (Ok p) × OnMachine (λ m. RunsJob job p m sink result) job.machine (uses which.Machine) sink result)
 Serves (Checks question) uses sink result =
     ((f : Fault) × (result ≡ Err f) × ReadsProgram question.program (uses which.Program) (Err f) × IsUnopened (uses which.Machine) × IsUnopened (uses which.Trace) × (sink.now ≡ sink.before))
     ⊎ ((p : Listing) × ReadsProgram question.program (uses which.Program) (Ok p) × ChecksOnMachine question p uses sink result)
@@ -226,3 +267,9 @@ Serves (Prints file) uses sink result =
     ((f : Fault) × (result ≡ Err f) × ReadsProgram file (uses which.Program) (Err f) × (sink.now ≡ sink.before))
     ⊎ ((p : Listing) × ReadsProgram file (uses which.Program) (Ok p) × PrintsProgram p sink result)
 Serves (Generates n) uses sink result = WritesGenerated n sink result
+Serves (Compiles file) uses sink result =
+    ((f : Fault) × (result ≡ Err f) × ReadsKernel file (uses which.Kernel) (Err f) × (sink.now ≡ sink.before))
+    ⊎ ((p : Listing) × ReadsKernel file (uses which.Kernel) (Ok p) × PrintsKernel p sink result)
+Serves (RunsKernel job) uses sink result =
+    ((f : Fault) × (result ≡ Err f) × ReadsKernel job.program (uses which.Kernel) (Err f) × IsUnopened (uses which.Machine) × (sink.now ≡ sink.before))
+    ⊎ ((p : Listing) × ReadsKernel job.program (uses which.Kernel) (Ok p) × OnMachine (λ m. RunsKernelJob job p m sink result) job.machine (uses which.Machine) sink result)

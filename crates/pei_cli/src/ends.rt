@@ -1,7 +1,7 @@
 //! What the top calls answer.
 
 use journal::Journal;
-use pei_types::EndKind;
+use pei_types::{EndKind, Program};
 use shared_table::Receipt;
 use trace_check::Verdict;
 
@@ -25,6 +25,19 @@ pub enum PlainEnd {
     /// A text was written; the status is 0.
     Text {
         status: u8,
+    },
+    /// The canonical text of a kernel's program was written: the status, which is 0, and the program.
+    Kernel {
+        status: u8,
+        program: Program,
+    },
+    /// A scheduled run of a kernel's program: that program, and the others as of any scheduled run.
+    KernelSched {
+        status: u8,
+        program: Program,
+        journal: Journal,
+        cores: [Option<EndKind>; 8],
+        turns: u64,
     },
 }
 

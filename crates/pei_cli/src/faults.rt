@@ -2,10 +2,11 @@
 
 ghost use Rattle.std.specs.Prelude.{◌≡◌, Some, option_map};
 ghost use Rattle.pei_io.specs.Outside.{Writes};
-ghost use Rattle.pei_cli.specs.FaultLines.{fault_of_loading, fault_of_machine, fault_of_text, status_of_fault, fault_line, load_line, machine_kind, machine_line, told_key, asm_word, which_word};
+ghost use Rattle.pei_cli.specs.FaultLines.{fault_of_kernel, fault_of_loading, fault_of_machine, fault_of_text, status_of_fault, fault_line, load_line, machine_kind, machine_line, told_key, asm_word, kernel_word, which_word};
 
 use crate::writing::write_pieces;
 use itoa::Buffer;
+use kernel_text::{KernelFault, KernelKind};
 use machine_file::MachineFault;
 use pei_asm::{AsmFault, AsmKind};
 use pei_io::{Failed, Sink, Which};
@@ -18,6 +19,8 @@ pub enum Fault {
     Usage,
     /// The program's text is refused, and where.
     ProgramBad(AsmFault),
+    /// The kernel's text is refused, and where.
+    KernelBad(KernelFault),
     /// The program can't be loaded.
     LoadBad(LoadFault),
     /// The machine's file is refused.
@@ -41,6 +44,16 @@ pub(crate) fn text_fault(fault: AsmFault) -> Fault
     match fault.kind {
         AsmKind::OutOfMemory => Fault::OutOfMemory,
         _ => Fault::ProgramBad(fault),
+    }
+}
+
+/// The fault of a command whose kernel's text has a fault. Want of memory is told as such.
+pub(crate) fn kernel_fault(fault: KernelFault) -> Fault
+    ensures { result ≡ fault_of_kernel fault }
+{
+    match fault.kind {
+        KernelKind::OutOfMemory => Fault::OutOfMemory,
+        _ => Fault::KernelBad(fault),
     }
 }
 
@@ -75,6 +88,7 @@ pub fn status_of(fault: &Fault) -> u8
         Fault::TraceBad { .. } => 11,
         Fault::InputTooLong { .. } => 13,
         Fault::ReadFault { .. } => 8,
+        Fault::KernelBad(_) => 15,
         Fault::WriteFault => 9,
         Fault::OutOfMemory => 10,
     }
@@ -90,6 +104,7 @@ pub fn write_fault<K: Sink>(fault: &Fault, sink: &mut K) -> Result<(), Failed>
             &[b"usage: peisim asm or sched or run or check or gen\n"],
         ),
         Fault::ProgramBad(fault) => write_program_bad(fault, sink),
+        Fault::KernelBad(fault) => write_kernel_bad(fault, sink),
         Fault::LoadBad(fault) => write_load_bad(fault, sink),
         Fault::MachineBad(fault) => write_machine_bad(fault, sink),
         Fault::TraceBad { line } => write_trace_bad(*line, sink),
@@ -136,6 +151,49 @@ fn write_program_bad<K: Sink>(fault: &AsmFault, sink: &mut K) -> Result<(), Fail
             b"\n",
         ],
     )
+}
+
+/// Writes the line of a fault of a kernel's text.
+fn write_kernel_bad<K: Sink>(fault: &KernelFault, sink: &mut K) -> Result<(), Failed>
+    ensures { Writes (fault_line (Fault.KernelBad fault.now)) (K.written sink.old) (K.written sink.new) (K.faults sink.old) (K.faults sink.new) result }
+{
+    let mut line = Buffer::new();
+    let mut column = Buffer::new();
+    write_pieces(
+        sink,
+        &[
+            b"kernel bad ",
+            line.format(fault.line).as_bytes(),
+            b":",
+            column.format(fault.column).as_bytes(),
+            b" ",
+            kernel_word(fault.kind),
+            b"\n",
+        ],
+    )
+}
+
+/// The word for what is wrong with a kernel's text.
+fn kernel_word(kind: KernelKind) -> &'static [u8]
+    ensures { result.now ≡ kernel_word kind }
+{
+    match kind {
+        KernelKind::BadChar => b"BadChar",
+        KernelKind::NumberTooLarge => b"NumberTooLarge",
+        KernelKind::Syntax => b"Syntax",
+        KernelKind::TooNested => b"TooNested",
+        KernelKind::DoubleName => b"DoubleName",
+        KernelKind::Unknown => b"Unknown",
+        KernelKind::WrongKind => b"WrongKind",
+        KernelKind::LoopVariable => b"LoopVariable",
+        KernelKind::TooManyVariables => b"TooManyVariables",
+        KernelKind::BadSize => b"BadSize",
+        KernelKind::TooManyValues => b"TooManyValues",
+        KernelKind::TooManyWords => b"TooManyWords",
+        KernelKind::TooDeep => b"TooDeep",
+        KernelKind::TooLong => b"TooLong",
+        KernelKind::OutOfMemory => b"OutOfMemory",
+    }
 }
 
 /// The word for what is wrong with a program's text.

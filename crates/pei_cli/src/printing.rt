@@ -3,13 +3,13 @@
 ghost use Rattle.std.specs.Prelude.{◌≡◌, ◌≢◌, ◌≤◌, None, IfErr};
 ghost use Rattle.pei_asm.specs.Canonical.{IsPrintable};
 ghost use Rattle.pei_io.specs.Outside.{LeavesOthers};
-ghost use Rattle.pei_cli.specs.Jobs.{Prints};
-ghost use Rattle.pei_cli.specs.Outcomes.{PrintsProgram, Serves, WritesGenerated};
+ghost use Rattle.pei_cli.specs.Jobs.{Compiles, Prints};
+ghost use Rattle.pei_cli.specs.Outcomes.{PrintsProgram, Serves, WritesGenerated, text_end};
 ghost use Rattle.pei_cli.specs.Uses.{file_use, sink_use};
 
 use crate::ends::PlainEnd;
 use crate::faults::Fault;
-use crate::reading::read_program;
+use crate::reading::{read_kernel, read_program};
 use pei_asm::print;
 use pei_io::{Failed, Files, Sink, Which, write_all};
 use pei_types::Program;
@@ -31,13 +31,33 @@ pub(crate) fn print_file<F: Files, K: Sink>(
     ensures others { LeavesOthers F.held F.left F.name F.taken F.faults Which.Program files.old files.new }
 {
     let program = read_program(alloc, files, name)?;
-    print_program(alloc, &program, sink)
+    let status = print_program(alloc, &program, sink)?;
+    Ok(PlainEnd::Text { status })
 }
 
-/// Writes the canonical text of a program.
-fn print_program<K: Sink>(alloc: Global, program: &Program, sink: &mut K) -> Result<PlainEnd, Fault>
+/// Writes the canonical text of the program of a file's kernel.
+pub(crate) fn compile_file<F: Files, K: Sink>(
+    alloc: Global,
+    name: &str,
+    files: &mut F,
+    sink: &mut K,
+) -> Result<PlainEnd, Fault>
+    requires { F.name files.old Which.Kernel ≡ None }
+    ensures serves { Serves (Compiles name.now) (file_use F.held F.left F.name F.taken F.faults files.old files.new) (sink_use K.written K.faults sink.old sink.new) result }
+    ensures untouched { IfErr result (λ f. f ≢ Fault.WriteFault → sink.new ≡ sink.old) }
+    ensures rising { F.faults files.old Which.Kernel ≤ F.faults files.new Which.Kernel }
+    ensures sink_rising { K.faults sink.old ≤ K.faults sink.new }
+    ensures others { LeavesOthers F.held F.left F.name F.taken F.faults Which.Kernel files.old files.new }
+{
+    let program = read_kernel(alloc, files, name)?;
+    let status = print_program(alloc, &program, sink)?;
+    Ok(PlainEnd::Kernel { status, program })
+}
+
+/// Writes the canonical text of a program, and answers the status.
+fn print_program<K: Sink>(alloc: Global, program: &Program, sink: &mut K) -> Result<u8, Fault>
     requires { IsPrintable program.now }
-    ensures prints { PrintsProgram program.now (sink_use K.written K.faults sink.old sink.new) result }
+    ensures prints { PrintsProgram program.now (sink_use K.written K.faults sink.old sink.new) (text_end result) }
     ensures untouched { IfErr result (λ f. f ≢ Fault.WriteFault → sink.new ≡ sink.old) }
     ensures rising { K.faults sink.old ≤ K.faults sink.new }
 {
@@ -45,7 +65,7 @@ fn print_program<K: Sink>(alloc: Global, program: &Program, sink: &mut K) -> Res
         return Err(Fault::OutOfMemory);
     };
     match write_all(sink, text.as_str().as_bytes()) {
-        Ok(()) => Ok(PlainEnd::Text { status: 0 }),
+        Ok(()) => Ok(0),
         Err(Failed) => Err(Fault::WriteFault),
     }
 }

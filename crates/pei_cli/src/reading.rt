@@ -5,12 +5,13 @@ ghost use Rattle.pei_asm.specs.Canonical.{IsPrintable};
 ghost use Rattle.pei_io.specs.Outside.{LeavesOthers};
 ghost use Rattle.pei_cli.specs.Words.{HasBuiltInCores, machine_as};
 ghost use Rattle.pei_cli.specs.Commands.{FromFile, file_of_machine};
-ghost use Rattle.pei_cli.specs.Outcomes.{FailsToRead, IsRead, ReadsMachine, ReadsProgram, ReadsTrace, most_bytes};
+ghost use Rattle.pei_cli.specs.Outcomes.{FailsToRead, IsRead, ReadsKernel, ReadsMachine, ReadsProgram, ReadsTrace, most_bytes};
 ghost use Rattle.pei_cli.specs.Uses.{file_use};
 
-use crate::faults::{Fault, machine_fault, text_fault};
+use crate::faults::{Fault, kernel_fault, machine_fault, text_fault};
 use crate::words::Machine;
 use journal::{Journal, TraceFault, read_trace};
+use kernel_lang::compile;
 use machine_file::{built_in, read_machine};
 use pei_asm::assemble;
 use pei_io::{Bytes, Files, ReadEnd, Which, read_limited};
@@ -44,6 +45,25 @@ pub(crate) fn read_program<F: Files>(
     match assemble(alloc, text.as_slice()) {
         Ok(program) => Ok(program),
         Err(fault) => Err(text_fault(fault)),
+    }
+}
+
+/// Reads a kernel of a file of this name, and makes its program.
+pub(crate) fn read_kernel<F: Files>(
+    alloc: Global,
+    files: &mut F,
+    name: &str,
+) -> Result<Program, Fault>
+    requires { F.name files.old Which.Kernel ≡ None }
+    ensures reads { ReadsKernel name.now (file_use F.held F.left F.name F.taken F.faults files.old files.new Which.Kernel) result }
+    ensures printable { IfOk result IsPrintable }
+    ensures rising { F.faults files.old Which.Kernel ≤ F.faults files.new Which.Kernel }
+    ensures others { LeavesOthers F.held F.left F.name F.taken F.faults Which.Kernel files.old files.new }
+{
+    let text = read_file(alloc, files, Which::Kernel, name)?;
+    match compile(alloc, text.as_slice()) {
+        Ok(program) => Ok(program),
+        Err(fault) => Err(kernel_fault(fault)),
     }
 }
 

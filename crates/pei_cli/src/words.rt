@@ -3,9 +3,9 @@
 ghost use Rattle.std.specs.Prelude.{◌≡◌, ◌+◌, ◌<◌, [], Some, None, length, get_or, IfSome, option_map, if◌then◌else◌, true};
 ghost use Rattle.pei_types.specs.declared.machines.MachineSpec.{MachineSpec};
 ghost use Rattle.sched_run.specs.Choice.{HasActorsOf};
-ghost use Rattle.pei_cli.specs.Commands.{asm_words, check_words, decimal_below, machine_word, output_words, run_words, schedule_word, sched_words, gen_words};
-ghost use Rattle.pei_cli.specs.Jobs.{Generates, Prints, asked_by, policy_of_word, threaded_by};
-ghost use Rattle.pei_cli.specs.Words.{Asks, AsksForThreads, HasBuiltInCores, checks_as, machine_as, output_as, runs_as, threaded_job_of};
+ghost use Rattle.pei_cli.specs.Commands.{Sched, KernelSched, asm_words, check_words, decimal_below, gen_words, kernel_words, machine_word, output_words, run_words, schedule_word, scheduled_words};
+ghost use Rattle.pei_cli.specs.Jobs.{Compiles, Generates, Prints, asked_by, policy_of_word, threaded_by};
+ghost use Rattle.pei_cli.specs.Words.{Asks, AsksForThreads, HasBuiltInCores, checks_as, machine_as, output_as, runs_as, runs_kernel_as, threaded_job_of};
 
 use pei_io::Text;
 use sched_run::Policy;
@@ -24,6 +24,10 @@ pub(crate) enum Asked {
     Print,
     /// The generated program of a number.
     Generate(u64),
+    /// The canonical text of the program of a kernel, which is the second word.
+    Compile,
+    /// A scheduled run of a kernel, which is the second word. Its machine is the third.
+    RunKernel(Run),
 }
 
 /// A machine that a word names.
@@ -71,6 +75,9 @@ pub(crate) fn read_words(words: &[Text]) -> Option<Asked>
         "sched" => Some(Asked::Run(sched_words(rest)?)),
         "check" => Some(Asked::Check(check_words(rest)?)),
         "gen" => Some(Asked::Generate(generate_words(rest)?)),
+        "kernel" if names_kernel(rest) => Some(Asked::Compile),
+        "kernel" => None,
+        "ksched" => Some(Asked::RunKernel(sched_words(rest)?)),
         _ => None,
     }
 }
@@ -94,13 +101,21 @@ fn names_program(words: &[Text]) -> bool
     words.len() == 1
 }
 
-/// The run that the words behind `sched` ask for.
+/// Whether the words behind `kernel` name a kernel.
+fn names_kernel(words: &[Text]) -> bool
+    ensures asked { asked_by (kernel_words words.now) ≡ (if result then Some (Compiles (get_or words.now 0 [])) else None) }
+    ensures within { result ≡ true → 0 < length words.now }
+{
+    words.len() == 1
+}
+
+/// The run that the words behind `sched` or `ksched` ask for: of a program or of a kernel.
 fn sched_words(words: &[Text]) -> Option<Run>
-    ensures some { IfSome result (λ j. asked_by (sched_words words.now) ≡ Some (runs_as (get_or words.now 0 []) (get_or words.now 1 []) j)) }
+    ensures some { IfSome result (λ j. (asked_by (scheduled_words Sched words.now) ≡ Some (runs_as (get_or words.now 0 []) (get_or words.now 1 []) j)) × (asked_by (scheduled_words KernelSched words.now) ≡ Some (runs_kernel_as (get_or words.now 0 []) (get_or words.now 1 []) j))) }
     ensures within { IfSome result (λ j. 1 < length words.now) }
     ensures cores { IfSome result (λ j. HasBuiltInCores j.machine) }
     ensures actors { IfSome result (λ j. (m : MachineSpec) → HasActorsOf m j.policy) }
-    ensures none { result ≡ None → asked_by (sched_words words.now) ≡ None }
+    ensures none { result ≡ None → (asked_by (scheduled_words Sched words.now) ≡ None) × (asked_by (scheduled_words KernelSched words.now) ≡ None) }
 {
     let [_, machine, seed, turns, output @ ..] = words else {
         return None;

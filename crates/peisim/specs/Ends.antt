@@ -18,6 +18,8 @@ abbrev pub status_of_end : Ended → ℕ
 status_of_end (ended.Plain (Ok (ends.Sched status journal cores turns))) = status
 status_of_end (ended.Plain (Ok (ends.Checked status verdict))) = status
 status_of_end (ended.Plain (Ok (ends.Text status))) = status
+status_of_end (ended.Plain (Ok (ends.Kernel status program))) = status
+status_of_end (ended.Plain (Ok (ends.KernelSched status program journal cores turns))) = status
 status_of_end (ended.Plain (Err f)) = status_of_fault f
 status_of_end (ended.Threaded (Ok end)) = end.status
 status_of_end (ended.Threaded (Err f)) = status_of_fault f

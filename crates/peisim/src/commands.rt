@@ -41,6 +41,8 @@ impl Ended {
             Ended::Plain(Ok(PlainEnd::Sched { status, .. })) => *status,
             Ended::Plain(Ok(PlainEnd::Checked { status, .. })) => *status,
             Ended::Plain(Ok(PlainEnd::Text { status })) => *status,
+            Ended::Plain(Ok(PlainEnd::Kernel { status, .. })) => *status,
+            Ended::Plain(Ok(PlainEnd::KernelSched { status, .. })) => *status,
             Ended::Threaded(Ok(end)) => end.status,
             Ended::Plain(Err(fault)) | Ended::Threaded(Err(fault)) => status_of(fault),
         }
